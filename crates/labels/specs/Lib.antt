@@ -1,0 +1,5 @@
+pub mod Laws
+pub mod Faults
+pub mod Bits
+pub mod Schemes
+pub mod Words
