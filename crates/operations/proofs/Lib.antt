@@ -1,0 +1,5 @@
+pub mod Bitwise
+pub mod Nearest
+pub mod Ranges
+pub mod Rounding
+pub mod Shares

@@ -1,0 +1,7 @@
+use borrow.Author.Needs.{needs}
+use Rattle.std.proofs.shelf.Lists.{getD-past}
+use Rattle.table.proofs.table.Table.label.Needs as need
+
+-- past the last slot nothing is listed
+pub returns-in-None : need.returns-in-None
+returns-in-None c = search (needs, getD-past)
