@@ -1,0 +1,4 @@
+pub mod Searching
+pub mod Refusals
+pub mod Constants
+pub mod Acceptance
