@@ -1,0 +1,9 @@
+pub mod Order
+pub mod Agreement
+pub mod Confined
+pub mod Alike
+pub mod Noninterference
+pub mod Calls
+pub mod Steps
+pub mod Strike
+pub mod Examples

@@ -1,0 +1,4 @@
+pub mod Noninterference
+pub mod Monitor
+pub mod Strike
+pub mod Examples
