@@ -1,0 +1,4 @@
+pub mod Checks
+pub mod Labels
+pub mod Playing
+pub mod Soundness
