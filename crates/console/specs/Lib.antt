@@ -1,0 +1,12 @@
+pub mod Lines
+pub mod Cut
+pub mod Fields
+pub mod Calls
+pub mod Reading
+pub mod Printing
+pub mod Windows
+pub mod Scheme
+pub mod Console
+pub mod Struck
+pub mod Turns
+pub mod Replies
