@@ -1,4 +1,6 @@
 //! The window's text protocol: from the bytes that are read to the bytes that are printed.
+#![tactic(auto)]
+
 mod answering;
 mod buffered;
 mod fields;

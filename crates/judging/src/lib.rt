@@ -1,4 +1,6 @@
 //! The judge: before a sheet runs, every row of it is judged by the labels alone.
+#![tactic(auto)]
+
 mod control;
 mod sheet;
 mod theorems;

@@ -1,4 +1,6 @@
 //! Label schemes: a trait with its laws, and five schemes that keep them.
+#![tactic(auto)]
+
 mod cap;
 mod counted;
 mod fault;

@@ -1,6 +1,8 @@
 //! Runs the box at its limits, and prints what it answers: every fault number of the box at least once, mostly beside a near case that is accepted.
 //! A line is what was tried, and then number, row (or line), byte and value. Number 0 is a call that was carried out, and the value is what was
 //! viewed, the turns that were taken, or the count of a cut.
+#![tactic(auto)]
+
 mod rosters;
 mod sheets;
 

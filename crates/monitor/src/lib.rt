@@ -1,4 +1,6 @@
 //! The reference monitor: one table of people and slots under a label scheme, and the calls on it.
+#![tactic(auto)]
+
 mod access;
 mod call;
 mod fault;

@@ -1,5 +1,7 @@
 //! The theorems about judged sheets and about calls: whoever sees only what is at or below a label learns nothing of the rest.
 //! Each is the contract of a function, stated over the definitions in specs/.
+#![tactic(auto)]
+
 ghost use Rattle.noninterference.specs.Examples.{Examples};
 ghost use Rattle.noninterference.specs.Monitor.{CallsOneByOne};
 ghost use Rattle.noninterference.specs.Noninterference.{Noninterference};

@@ -1,4 +1,6 @@
 //! What a row may compute of two values.
+#![tactic(auto)]
+
 mod operation;
 mod share;
 pub mod words;

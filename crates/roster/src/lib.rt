@@ -1,4 +1,6 @@
 //! The roster: a text that lists people and slots with their labels, one to a line.
+#![tactic(auto)]
+
 mod fault;
 mod line;
 mod listing;

@@ -1,4 +1,6 @@
 //! The rows of a sheet: what each means, its bytes, and the faults of a row.
+#![tactic(auto)]
+
 mod complaint;
 mod fault;
 mod kind;

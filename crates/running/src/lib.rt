@@ -1,4 +1,6 @@
 //! Runs a sheet over the inner table. It knows no scheme.
+#![tactic(auto)]
+
 mod entry;
 mod laws;
 mod runner;

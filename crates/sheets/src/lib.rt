@@ -1,4 +1,6 @@
 //! Sheets: rows with their blocks, read from bytes and checked before anything else is done with them.
+#![tactic(auto)]
+
 mod fault;
 mod meaning;
 mod sheet;

@@ -1,4 +1,6 @@
 //! The inner table: people and slots, with their labels and values. It knows no scheme.
+#![tactic(auto)]
+
 mod table;
 mod words;
 

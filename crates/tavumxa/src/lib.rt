@@ -2,6 +2,8 @@
 //!
 //! A box itself cannot be handed to C, since it holds enums. So one call takes a roster and a list of calls as text, plays them at a new box and gives
 //! all answers as text, as the window program does.
+#![tactic(auto)]
+
 ghost use Rattle.std.specs.Prelude.{◌≡◌, ℕ, Bool, List};
 ghost use Rattle.console.specs.Console.{printed};
 ghost use Rattle.console.specs.Lines.{read_of};

@@ -1,4 +1,6 @@
 //! One task at the lost property counter, told from beginning to end.
+#![tactic(auto)]
+
 mod day;
 mod judged;
 mod labelled;

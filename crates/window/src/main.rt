@@ -1,4 +1,6 @@
 //! The window: reads a roster and calls from standard input, and prints what is answered.
+#![tactic(auto)]
+
 use console::respond;
 use std::io;
 use std::io::{Read, Write};

@@ -10,8 +10,8 @@ rejoin-requires g c =
     let H = g.met.B.Scheme.lawful s.high in
     let v = g.A.Scheme.bits s.low in
     let w = g.B.Scheme.bits s.high in
-    let low = L.join_fits c.split-a-low.result.0 c.split-b-low.result.0 (omega arith) (omega arith) in
-    let high = H.join_fits c.split-a-low.result.1 c.split-b-low.result.1 (omega arith) (omega arith) in
+    let low = L.join_fits c.split-a_low.result.0 c.split-b_low.result.0 (omega arith) (omega arith) in
+    let high = H.join_fits c.split-a_low.result.1 c.split-b_low.result.1 (omega arith) (omega arith) in
     let sum : v + w ≤ 64 = leb-true (v + w) 64 (sym {a = true} {b = leb (v + w) 64} c.if-not-fits.ensures) in
     let room : w ≤ 64 - v = omega arith in
     simp (c.width-width.ensures, c.join-low.ensures, c.join-high.ensures)
