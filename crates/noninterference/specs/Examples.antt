@@ -47,7 +47,7 @@ takes_turns = while 1 (simple (assign 1 (constant (pos 0))) nil) nil
 -- every sheet stands for this block, and passes
 abbrev pub monitor_with : Block → Monitor
 monitor_with b = record {
-  flows = leb;
+  flows = nat_le;
   joins = max;
   bits = 64;
   people = two_labels;

@@ -21,16 +21,16 @@ accepted input size table roster calls read =
     ∙ (ap (λ (lines : List Line). concat (replies (window_of table) table.slots (map said lines))) calls
     ∙ ap (λ (r : Result Table RosterFault). printed_by r (map said (call_lines input))) (sym read ∙ ap (roster_of window_bits) roster))
 
-pub write-answers-requires : goal.write-answers-requires
-write-answers-requires c =
+pub write_answers-requires : goal.write_answers-requires
+write_answers-requires c =
     let input = c.args.input.now in
-    let less = ends_less c.roster-size-size.result input in
-    let same = ap ends_in (take_rest input c.roster-size-size.result) in
+    let less = ends_less c.roster_size-size.result input in
+    let same = ap ends_in (take_rest input c.roster_size-size.result) in
     omega arith
 
 pub returns-in-Ok : goal.returns-in-Ok
 returns-in-Ok c =
-    as_text (accepted c.args.input.now c.roster-size-size.result c.in-Ok.window.monitor.table c.roster-size-size.ensures.roster c.roster-size-size.ensures.calls c.in-Ok.ensures) c.write-answers.ensures
+    as_text (accepted c.args.input.now c.roster_size-size.result c.in-Ok.window.monitor.table c.roster_size-size.ensures.roster c.roster_size-size.ensures.calls c.in-Ok.ensures) c.write_answers.ensures
 
 pub returns-in-Err : goal.returns-in-Err
 returns-in-Err c = as_text (search rules) c.write.ensures.wrote

@@ -17,14 +17,14 @@ fits {before} {text} {after} {to} room e wrote =
 no_room : (room : ℕ) (text before : List ℕ) → leb room (length before) ≡ false → ◌≡◌ {A = Option ℕ × List ℕ} (None, before) (placed room text before)
 no_room room text before e = rw e
 
-pub answer-input-requires : goal.answer-input-requires
-answer-input-requires c =
+pub answer_input-requires : goal.answer_input-requires
+answer_input-requires c =
     let input = c.args.input.now in
     let same = ap room_for (first_of input c.min.result 65536 c.min.ensures) in
     omega arith
 
-pub returns-then-out-room-for : goal.returns-then-out-room-for
-returns-then-out-room-for c =
+pub returns-then-out-room_for : goal.returns-then-out-room_for
+returns-then-out-room_for c =
     let input = c.args.input.now in
     let out = c.args.out.now in
     record { printed = no_room (room_for (read_of input)) (printed (read_of input)) out (lt-leb (room_for (read_of input)) (length out) (omega arith)); within = tt; untraced = leaves_no_trace (read_of input) }
@@ -33,7 +33,7 @@ pub returns : goal.returns
 returns c =
     let input = c.args.input.now in
     let out = c.args.out.now in
-    let wrote = as_text (ap printed (first_of input c.min.result 65536 c.min.ensures)) c.answer-input.ensures in
+    let wrote = as_text (ap printed (first_of input c.min.result 65536 c.min.ensures)) c.answer_input.ensures in
     record {
       printed = fits (room_for (read_of input)) (le-leb (room_for (read_of input)) (length out) (omega arith)) wrote;
       within = stays_within wrote;

@@ -18,7 +18,7 @@ loop-i-preserved c =
     elim c.if-byte-eq10.branch [
       | then-byte-eq10 w ↦
           moved w.start-is w.window-is w.out-is w.end-is
-          (fill_line c.loop-i.invariant c.loop-i-test.true w.if-byte-eq10.true w.reply-by-reply.ensures w.write-end.ensures.wrote w.write-end.ensures.few w.write-end.auto.out)
+          (fill_line c.loop-i.invariant c.loop-i-test.true w.if-byte-eq10.true w.reply_by-reply.ensures w.write-end.ensures.wrote w.write-end.ensures.few w.write-end.auto.out)
       | else-byte-eq10 w ↦ moved w.start-is w.window-is w.out-is w.end-is (fill_on c.loop-i.invariant c.loop-i-test.true w.if-byte-eq10.false)
     ]
 

@@ -21,4 +21,4 @@ more xs ys left b l e grown =
 pub loop-left-preserved : goal.loop-left-preserved
 loop-left-preserved c =
     c.loop-left.invariant
-    ∙ more (vec_items c.loop-left.bytes) (vec_items c.push.new.self) c.loop-left.left.now c.in-Some.byte (omega (arith, ltb-false)) (sym c.in-Some.ensures) c.in-ok-push.ensures.items
+    ∙ more (vec_items c.loop-left.bytes) (vec_items c.push.new.self) c.loop-left.left.now c.in-Some.byte (omega (arith, ltb-false)) (sym c.in-Some.ensures) c.in_ok-push.ensures.items

@@ -23,16 +23,16 @@ whole most o p q e same r = e ∙ (sym same ∙ ap (option_map (clipped most)) (
 pub returns-in-82 : goal.returns-in-82
 returns-in-82 c =
     let line = c.args.line.now in
-    c.read-run.ensures ∙ ap (option_map (clipped (length c.args.sheet.now))) (sym (lettered line 82 (omega (arith, ltb-false)) (omega arith) (omega arith)))
+    c.read_run.ensures ∙ ap (option_map (clipped (length c.args.sheet.now))) (sym (lettered line 82 (omega (arith, ltb-false)) (omega arith) (omega arith)))
 
 pub returns-in-76 : goal.returns-in-76
 returns-in-76 c =
     let line = c.args.line.now in
     let most = length c.args.sheet.now in
-    whole most _ _ (call_in line) c.read-lay.ensures (lay_whole most (take (length line - 2) (drop 2 line))) (lettered line 76 (omega (arith, ltb-false)) (omega arith) (omega arith))
+    whole most _ _ (call_in line) c.read_lay.ensures (lay_whole most (take (length line - 2) (drop 2 line))) (lettered line 76 (omega (arith, ltb-false)) (omega arith) (omega arith))
 
 pub returns-in-86 : goal.returns-in-86
 returns-in-86 c =
     let line = c.args.line.now in
     let most = length c.args.sheet.now in
-    whole most _ _ (call_in line) c.read-view.ensures (view_whole most (take (length line - 2) (drop 2 line))) (lettered line 86 (omega (arith, ltb-false)) (omega arith) (omega arith))
+    whole most _ _ (call_in line) c.read_view.ensures (view_whole most (take (length line - 2) (drop 2 line))) (lettered line 86 (omega (arith, ltb-false)) (omega arith) (omega arith))

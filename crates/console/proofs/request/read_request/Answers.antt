@@ -18,13 +18,13 @@ lettered line letter l first second =
     ∙ ap (λ (b : ℕ). call_in (letter ∷ b ∷ take (length line - 2) (drop 2 line))) second)
 
 pub returns-in-76 : goal.returns-in-76
-returns-in-76 c = c.read-lay.ensures ∙ sym (lettered c.args.line.now 76 (omega (arith, ltb-false)) (omega arith) (omega arith))
+returns-in-76 c = c.read_lay.ensures ∙ sym (lettered c.args.line.now 76 (omega (arith, ltb-false)) (omega arith) (omega arith))
 
 pub returns-in-86 : goal.returns-in-86
-returns-in-86 c = c.read-view.ensures ∙ sym (lettered c.args.line.now 86 (omega (arith, ltb-false)) (omega arith) (omega arith))
+returns-in-86 c = c.read_view.ensures ∙ sym (lettered c.args.line.now 86 (omega (arith, ltb-false)) (omega arith) (omega arith))
 
 pub returns-in-82 : goal.returns-in-82
 returns-in-82 c =
     let line = c.args.line.now in
-    IfOk-weaker c.read-run.result (λ request. option_map asked request ≡ run_in (take (length line - 2) (drop 2 line))) (λ request. option_map asked request ≡ call_in line)
-    (λ request e. e ∙ sym (lettered line 82 (omega (arith, ltb-false)) (omega arith) (omega arith))) c.read-run.ensures
+    IfOk-weaker c.read_run.result (λ request. option_map asked request ≡ run_in (take (length line - 2) (drop 2 line))) (λ request. option_map asked request ≡ call_in line)
+    (λ request e. e ∙ sym (lettered line 82 (omega (arith, ltb-false)) (omega arith) (omega arith))) c.read_run.ensures

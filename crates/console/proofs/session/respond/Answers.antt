@@ -23,13 +23,13 @@ accepted input size table roster calls read =
 pub returns-in-Ok : goal.returns-in-Ok
 returns-in-Ok c =
     let input = c.args.input.now in
-    let size = c.roster-size-size.result in
+    let size = c.roster_size-size.result in
     let table = c.in-Ok.window.monitor.table in
-    let same = accepted input size table c.roster-size-size.ensures.roster c.roster-size-size.ensures.calls c.in-Ok.ensures in
+    let same = accepted input size table c.roster_size-size.ensures.roster c.roster_size-size.ensures.calls c.in-Ok.ensures in
     record {
       printed =
-          IfOk-weaker c.answer-lines.result (λ text. string_bytes text ≡ concat (replies (window_of table) table.slots (map said (lines_of (take (length input - size) (drop size input))))))
-          (λ text. string_bytes text ≡ printed input) (λ text e. e ∙ same) c.answer-lines.ensures;
+          IfOk-weaker c.answer_lines.result (λ text. string_bytes text ≡ concat (replies (window_of table) table.slots (map said (lines_of (take (length input - size) (drop size input))))))
+          (λ text. string_bytes text ≡ printed input) (λ text e. e ∙ same) c.answer_lines.ensures;
       untraced = leaves_no_trace input;
     }
 

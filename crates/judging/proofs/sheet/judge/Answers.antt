@@ -5,8 +5,8 @@ use Rattle.judging.proofs.Judgements.{judgement}
 use Rattle.judging.proofs.sheet.judge.Goals as goal
 
 -- the part that is lent is the first `count` rows: its `count - 0` is rewritten
-pub judge-rows-requires : goal.judge-rows-requires
-judge-rows-requires g c =
+pub judge_rows-requires : goal.judge_rows-requires
+judge_rows-requires g c =
     let sheet = c.args.sheet.now in
     rw sub-zero
     (record {
@@ -16,5 +16,5 @@ judge-rows-requires g c =
 
 pub returns : goal.returns
 returns g c =
-    let answers = rw sub-zero at c.judge-rows.ensures in
+    let answers = rw sub-zero at c.judge_rows.ensures in
     judgement _ _ _ _ _ _ (listed _ c.args.sheet.now.accepted) answers

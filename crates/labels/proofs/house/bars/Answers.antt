@@ -9,8 +9,8 @@ pub loop-place-init : goal.loop-place-init
 unfolding bits_where
 loop-place-init c = refl
 
-pub overflow-shl-mask : goal.overflow-shl-mask
-overflow-shl-mask c = omega (arith, square_fits c.args.principals c.requires.1)
+pub overflow_shl-mask : goal.overflow_shl-mask
+overflow_shl-mask c = omega (arith, square_fits c.args.principals c.requires.1)
 
 pub loop-place-preserved : goal.loop-place-preserved
 loop-place-preserved c =

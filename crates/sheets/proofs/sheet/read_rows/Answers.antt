@@ -3,33 +3,33 @@ use Rattle.std.proofs.lemmas.Result.{err_from_is_err_and}
 use Rattle.sheets.proofs.Assembling.{fill_row, fill_block, fill_more, fill_open, fill_all, fill_read}
 use Rattle.sheets.proofs.sheet.read_rows.Goals as goal
 
-pub returns-in-err-row : goal.returns-in-err-row
-returns-in-err-row c =
-    let p = err_from_is_err_and c.from-residual.result c.from-residual.ensures.1 in
+pub returns-in_err-row : goal.returns-in_err-row
+returns-in_err-row c =
+    let p = err_from_is_err_and c.from_residual.result c.from_residual.ensures.1 in
     rw (p.1, p.2)
-    (fill_row _ _ _ c.loop-i.rows c.loop-i.jumps c.loop-i.i _ c.requires c.loop-i.invariant _ c.loop-i-test.true c.in-err-row.ensures.read)
+    (fill_row _ _ _ c.loop-i.rows c.loop-i.jumps c.loop-i.i _ c.requires c.loop-i.invariant _ c.loop-i-test.true c.in_err-row.ensures.read)
 
-pub returns-in-err-ended : goal.returns-in-err-ended
-returns-in-err-ended c =
-    let p = err_from_is_err_and c.from-residual-in-err-ended.result c.from-residual-in-err-ended.ensures.1 in
+pub returns-in_err-ended : goal.returns-in_err-ended
+returns-in_err-ended c =
+    let p = err_from_is_err_and c.from_residual-in_err-ended.result c.from_residual-in_err-ended.ensures.1 in
     rw (p.1, p.2)
-    (fill_block _ _ _ c.loop-i.rows c.loop-i.jumps c.loop-i.i _ c.requires c.loop-i.invariant c.in-ok-row.row _ c.loop-i-test.true c.in-ok-row.ensures.read c.in-err-ended.ensures.0)
+    (fill_block _ _ _ c.loop-i.rows c.loop-i.jumps c.loop-i.i _ c.requires c.loop-i.invariant c.in_ok-row.row _ c.loop-i-test.true c.in_ok-row.ensures.read c.in_err-ended.ensures.0)
 
 pub loop-i-preserved : goal.loop-i-preserved
 loop-i-preserved c =
-    fill_more _ _ _ c.loop-i.rows c.loop-i.jumps c.loop-i.i _ c.requires c.loop-i.invariant c.in-ok-row.row _ _ _ c.loop-i-test.true c.in-ok-row.ensures.read c.in-ok-row.ensures.bounded c.in-ok-ended.ensures c.note-jump.ensures
+    fill_more _ _ _ c.loop-i.rows c.loop-i.jumps c.loop-i.i _ c.requires c.loop-i.invariant c.in_ok-row.row _ _ _ c.loop-i-test.true c.in_ok-row.ensures.read c.in_ok-row.ensures.bounded c.in_ok-ended.ensures c.note_jump.ensures
 
-pub returns-in-err-finish : goal.returns-in-err-finish
-returns-in-err-finish c =
-    let p = err_from_is_err_and c.from-residual-in-err-finish.result c.from-residual-in-err-finish.ensures.1 in
+pub returns-in_err-finish : goal.returns-in_err-finish
+returns-in_err-finish c =
+    let p = err_from_is_err_and c.from_residual-in_err-finish.result c.from_residual-in_err-finish.ensures.1 in
     rw (p.1, p.2)
-    (fill_open _ _ _ c.loop-i.rows c.loop-i.jumps c.loop-i.i _ c.requires c.loop-i.invariant tt _ (omega arith) c.in-err-finish.ensures)
+    (fill_open _ _ _ c.loop-i.rows c.loop-i.jumps c.loop-i.i _ c.requires c.loop-i.invariant tt _ (omega arith) c.in_err-finish.ensures)
 
-pub invariant-of-result : goal.invariant-of-result
-invariant-of-result c =
-    let w = fill_all _ _ _ c.loop-i.rows c.loop-i.jumps c.loop-i.i _ c.requires c.loop-i.invariant tt _ (omega arith) c.in-ok-finish.ensures in
-    (c.loop-i.invariant.few, (w.accepted, (w.led, (w.bounded, tt))))
+pub invariant_of-result : goal.invariant_of-result
+invariant_of-result c =
+    let w = fill_all _ _ _ c.loop-i.rows c.loop-i.jumps c.loop-i.i _ c.requires c.loop-i.invariant tt _ (omega arith) c.in_ok-finish.ensures in
+    record { few = c.loop-i.invariant.few; accepted = w.accepted; led = w.led; bounded = w.bounded }
 
 pub returns : goal.returns
 returns c =
-    fill_read _ _ _ c.loop-i.rows c.loop-i.jumps c.loop-i.i _ c.requires c.loop-i.invariant tt _ (omega arith) c.in-ok-finish.ensures
+    fill_read _ _ _ c.loop-i.rows c.loop-i.jumps c.loop-i.i _ c.requires c.loop-i.invariant tt _ (omega arith) c.in_ok-finish.ensures

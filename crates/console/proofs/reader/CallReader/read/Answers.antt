@@ -7,4 +7,4 @@ use Rattle.console.proofs.reader.CallReader.read.Goals as goal
 pub returns : goal.returns
 returns c =
     let size : length c.args.self.now.sheet ≡ 2049 = search rules in
-    c.read-call.ensures ∙ ap (λ (n : ℕ). option_map (clipped n) (call_in c.args.line.now)) size
+    c.read_call.ensures ∙ ap (λ (n : ℕ). option_map (clipped n) (call_in c.args.line.now)) size

@@ -8,9 +8,9 @@ loop-i-init g c = (at_first _ _ _ _ _ _, refl, refl)
 pub loop-i-preserved : goal.loop-i-preserved
 loop-i-preserved g c =
     let box = c.args.self.now in
-    let one = c.answer-at.ensures in
+    let one = c.answer_at.ensures in
     let stepped = rw c.loop-i.invariant.1 at one.stepped in (
-      one_more (g.S.Scheme.flows box.scheme) (g.S.Scheme.joins box.scheme) (g.S.Scheme.bits box.scheme) box.table c.args.calls.now c.args.answers.now c.loop-i.i c.loop-i.answers c.loop-i.self.table c.loop-i.invariant.0 _ _ c.answer-at.new.self.table stepped (omega arith) (omega arith) c.answer-at.new.answers one.written,
+      one_more (g.S.Scheme.flows box.scheme) (g.S.Scheme.joins box.scheme) (g.S.Scheme.bits box.scheme) box.table c.args.calls.now c.args.answers.now c.loop-i.i c.loop-i.answers c.loop-i.self.table c.loop-i.invariant.0 _ _ c.answer_at.new.self.table stepped (omega arith) (omega arith) c.answer_at.new.answers one.written,
       one.kept.0 ∙ c.loop-i.invariant.1,
       one.kept.1 ∙ c.loop-i.invariant.2,
     )

@@ -9,5 +9,5 @@ pub returns : goal.returns
 returns g c =
     let box = c.args.self.now in
     let bytes = c.args.bytes.now in
-    let small : All (λ byte. byte < 256) bytes = All-from_get_or (λ byte. byte < 256) bytes 0 (λ k h. (c.type-inv.bytes k).fits) in
+    let small : All (λ byte. byte < 256) bytes = All-from_get_or (λ byte. byte < 256) bytes 0 (λ k h. (c.type_inv.bytes k).fits) in
     vetted_checks (g.S.Scheme.flows box.scheme) (g.S.Scheme.joins box.scheme) (label_at box.table.slots) c.args.runner bytes small _ _ c.vet.result refl c.vet.ensures

@@ -12,11 +12,11 @@ returns-in-Difference c = search (rules, wraps)
 pub returns-in-Product : goal.returns-in-Product
 returns-in-Product c = search (rules, wraps)
 
-pub overflow-cast-result : goal.overflow-cast-result
-overflow-cast-result c =
-    record { sfits = of_bits_small _ _ c.ranges.first c.ranges.second _ _ _ c.cast-unsigned.ensures c.cast-unsigned-in-Differing.ensures c.differing.ensures }
+pub overflow_cast-result : goal.overflow_cast-result
+overflow_cast-result c =
+    record { sfits = of_bits_small _ _ c.ranges.first c.ranges.second _ _ _ c.cast_unsigned.ensures c.cast_unsigned-in-Differing.ensures c.differing.ensures }
 
 pub returns-in-Differing : goal.returns-in-Differing
 returns-in-Differing c =
-    let is = of_bits _ _ c.ranges.first c.ranges.second _ _ _ c.cast-unsigned.ensures c.cast-unsigned-in-Differing.ensures c.differing.ensures in
-    rw c.in-Differing.is (to_z_pos w32 _ (overflow-cast-result c).sfits ∙ ap pos is)
+    let is = of_bits _ _ c.ranges.first c.ranges.second _ _ _ c.cast_unsigned.ensures c.cast_unsigned-in-Differing.ensures c.differing.ensures in
+    rw c.in-Differing.is (to_z_pos w32 _ (overflow_cast-result c).sfits ∙ ap pos is)

@@ -8,8 +8,8 @@ use Rattle.sheets.proofs.sheet.Sheet.read.Goals as goal
 pub returns : goal.returns
 returns c =
     let bytes = c.args.bytes.now in
-    let small : All (λ byte. byte < 256) bytes = All-from_get_or (λ byte. byte < 256) bytes 0 (λ k h. (c.type-inv.bytes k).fits) in
+    let small : All (λ byte. byte < 256) bytes = All-from_get_or (λ byte. byte < 256) bytes 0 (λ k h. (c.type_inv.bytes k).fits) in
     record {
-      read = c.read-rows.ensures;
-      means = made_means (listed c.args.table.now.slots) bytes (λ sheet. take sheet.count sheet.rows) small c.read-rows.result c.read-rows.ensures;
+      read = c.read_rows.ensures;
+      means = made_means (listed c.args.table.now.slots) bytes (λ sheet. take sheet.count sheet.rows) small c.read_rows.result c.read_rows.ensures;
     }
