@@ -1,5 +1,5 @@
 -- A sheet that is too long is refused whatever stands in it, so of a longer one the rest can be left out. Assumes nothing.
-use Rattle.std.proofs.Common.{◌≡◌, ℕ, ◌<◌, ◌≤◌, Bool, true, false, leb, List, length, take, Some, None, Err, Option, Result, sym, refl, ap, ◌∙◌, arith}
+use Rattle.std.proofs.Common.{◌≡◌, ℕ, ◌<◌, Bool, true, false, leb, List, length, take, Some, None, Err, Option, Result, sym, refl, ap, ◌∙◌, arith}
 use Rattle.std.specs.Option.{option_map}
 use Rattle.std.proofs.lemmas.List.{take_all, length-take}
 use Rattle.std.proofs.lemmas.Bool.{leb-true, leb-false, lt-leb}
@@ -10,7 +10,7 @@ use Rattle.rows.specs.declared.row.Row.{Row}
 use Rattle.sheets.specs.declared.fault.SheetFault.{SheetFault}
 use Rattle.sheets.specs.declared.fault.SheetFault.TheVariants as fault
 use Rattle.sheets.specs.Reading.{read_sheet}
-use Rattle.noninterference.specs.Monitor.{Call, lay, view, run, Answer, Monitor, step, run_as, run_checked}
+use Rattle.noninterference.specs.Monitor.{Call, lay, view, run, Answer, step, run_as, run_checked}
 use Rattle.monitor.specs.Boxes.{checked_rows, Stepped}
 use Rattle.console.specs.Clipping.{clipped}
 use Rattle.console.specs.Reading.{call_in}

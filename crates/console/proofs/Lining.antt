@@ -1,10 +1,10 @@
 -- The lines of an input are the input, cut after each byte 10. Assumes nothing.
-use Rattle.std.proofs.Common.{◌≡◌, ℕ, ◌<◌, Bool, true, false, eqb, List, [], ◌∷◌, ◌++◌, sym, refl, ap, ◌∙◌, arith}
+use Rattle.std.proofs.Common.{◌≡◌, ℕ, Bool, true, false, eqb, List, [], ◌∷◌, ◌++◌, sym, refl, ap, ◌∙◌, arith}
 use Rattle.std.specs.List.{flat_map, AllByRecursion as All}
 use Rattle.std.proofs.ByRecursion.{All-push}
 use Rattle.std.proofs.lemmas.List.{append_assoc, append-nil}
 use Rattle.std.proofs.lemmas.Bool.{eqb-true, eqb-false}
-use Rattle.console.specs.Lines.{Line, last_line, lines_from, lines_of, as_read, leads, leading, after_leading}
+use Rattle.console.specs.Lines.{Line, lines_from, lines_of, as_read, leads, leading, after_leading}
 use Rattle.console.specs.Cut.{Lined, none, not_ended, one_more, NoEndWithin, FirstDoesNotLead, LinesStand}
 
 abbrev NoEnd : List ℕ → Type 0

@@ -1,7 +1,6 @@
 -- What a format of numbers writes is what they are written as. Assumes nothing.
-use Rattle.std.proofs.Common.{◌≡◌, ℕ, suc, ◌^◌, ◌<◌, List, [], ◌∷◌, ◌++◌, ℤ, pos, negsuc, decimal, sym, refl, ap, ◌∙◌, arith, w32, SFits}
+use Rattle.std.proofs.Common.{◌≡◌, ℕ, suc, ◌^◌, ◌<◌, List, [], ◌∷◌, ◌++◌, ℤ, pos, negsuc, decimal, ap, arith, w32, SFits}
 use Rattle.std.specs.Fmt.{signed_decimal}
-use Rattle.numerals.specs.Decimal.{written}
 use Rattle.numerals.proofs.Numbers.{stands}
 use Rattle.console.specs.Fields.{written_value}
 use Rattle.console.specs.Printing.{printed_line}

@@ -1,9 +1,8 @@
 -- A line is read as the call that it spells. Assumes nothing.
-use Rattle.std.proofs.Common.{◌≡◌, ℕ, zero, suc, ◌+◌, ◌-◌, ◌*◌, ◌/◌, ◌%◌, ◌^◌, ◌<◌, ◌≤◌, Bool, true, false, cond, ◌&&◌, eqb, ltb, leb, List, [], ◌∷◌, ◌++◌, ℤ, pos, negsuc, Some, None, Option, sym, refl, ap, ◌∙◌, subst, arith, w32, SFits}
+use Rattle.std.proofs.Common.{◌≡◌, ℕ, zero, suc, ◌+◌, ◌*◌, ◌/◌, ◌%◌, ◌<◌, Bool, true, false, cond, ◌&&◌, eqb, ltb, List, [], ◌∷◌, ◌++◌, ℤ, pos, negsuc, Some, None, Option, sym, refl, ap, ◌∙◌, subst, arith, w32, SFits}
 use Rattle.std.specs.Option.{option_map}
 use Rattle.std.specs.List.{AllByRecursion as All}
-use Rattle.std.proofs.lemmas.List.{append_assoc}
-use Rattle.std.proofs.lemmas.Bool.{and_parts, and_from, cond-true, cond-false, eqb-true, ne_eqb, ltb-true, lt-ltb}
+use Rattle.std.proofs.lemmas.Bool.{and_parts, and_from, cond-true, eqb-true, ne_eqb, ltb-true, lt-ltb}
 use Rattle.std.proofs.lemmas.Bool.Decides.{nat_tests}
 use Rattle.numerals.specs.Decimal.{written}
 use Rattle.numerals.specs.Numerals.{is_number, value_of}
@@ -11,7 +10,7 @@ use Rattle.numerals.proofs.Numbers.{IsDigit, stands, written_digits, value_writt
 use Rattle.console.specs.Fields.{written_value, hexadecimal_digit, hexadecimal}
 use Rattle.noninterference.specs.Monitor.{Call, lay, view, run}
 use Rattle.console.specs.Calls.{spelled, InRange, Says, call, faulty}
-use Rattle.console.specs.Reading.{and_then, cut, number_below, below_zero, value_after_minus, value_in, figure, byte_of, bytes_in, lay_in, view_in, run_fields, run_in, by_letter, call_in, ReadingStands}
+use Rattle.console.specs.Reading.{and_then, cut, number_below, below_zero, value_after_minus, value_in, figure, byte_of, bytes_in, lay_in, view_in, run_fields, run_in, call_in, ReadingStands}
 use Rattle.console.proofs.Cutting.{cut_written, cut_sound}
 
 -- ---- what is found

@@ -1,9 +1,9 @@
 -- How far the roster goes into the input. Assumes nothing.
-use Rattle.std.proofs.Common.{◌≡◌, ℕ, zero, suc, ◌+◌, ◌<◌, Bool, true, false, cond, not, ◌||◌, eqb, List, [], ◌∷◌, ◌++◌, length, get_or, take, drop, sym, refl, ap, ◌∙◌, arith}
+use Rattle.std.proofs.Common.{◌≡◌, ℕ, suc, ◌+◌, ◌<◌, Bool, true, false, cond, not, ◌||◌, eqb, List, [], ◌∷◌, ◌++◌, length, get_or, take, drop, sym, refl, ap, ◌∙◌, arith}
 use Rattle.std.specs.List.{flat_map}
 use Rattle.std.proofs.lemmas.List.{append_assoc, append-nil, at_drop_more}
 use Rattle.std.proofs.lemmas.Bool.{eqb-true, both_ways, cond-true, cond-false}
-use Rattle.console.specs.Lines.{Line, lines_from, lines_of, as_read, is_letter, leading, after_leading, roster_part, call_lines}
+use Rattle.console.specs.Lines.{lines_from, lines_of, as_read, is_letter, leading, after_leading, roster_part, call_lines}
 
 -- how many of the bytes are the roster's, in a line of it or at the start of a line
 abbrev pub size : Bool → List ℕ → ℕ

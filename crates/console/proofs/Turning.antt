@@ -1,14 +1,14 @@
 -- Call lines one after the other. Assumes nothing.
-use Rattle.std.proofs.Common.{◌≡◌, ℕ, ◌+◌, ◌-◌, ◌<◌, ◌≤◌, Bool, true, false, cond, eqb, List, [], ◌∷◌, ◌++◌, map, length, get_or, take, drop, Some, None, Option, sym, refl, ap, ◌∙◌, arith}
+use Rattle.std.proofs.Common.{◌≡◌, ℕ, ◌+◌, ◌<◌, ◌≤◌, List, [], ◌∷◌, ◌++◌, map, length, get_or, take, drop, Some, None, Option, sym, refl, ap, ◌∙◌, arith}
 use native.Mathlib.Nat.{sub_self}
 use Rattle.std.specs.List.{concat, between}
-use Rattle.std.proofs.lemmas.List.{append_assoc, append-nil, at_drop_more, at_drop_all, nil_from_length, length-take, length-drop}
+use Rattle.std.proofs.lemmas.List.{append_assoc, append-nil, at_drop_more, at_drop_all, length-take, length-drop}
 use Rattle.std.proofs.lemmas.List.Edits.{between_more}
 use Rattle.std.proofs.lemmas.Bool.{eq-eqb, ne_eqb}
 use Rattle.table.specs.declared.table.Slot.{Slot}
 use Rattle.table.specs.declared.table.Table.{Table}
 use Rattle.noninterference.specs.Monitor.{Call, Monitor}
-use Rattle.console.specs.Lines.{Line, last_line, lines_from, lines_of}
+use Rattle.console.specs.Lines.{last_line, lines_from, lines_of}
 use Rattle.console.specs.Reading.{call_in}
 use Rattle.console.specs.Console.{said, faulty_line, replies}
 use Rattle.console.specs.Scheme.{window_of}

@@ -1,5 +1,5 @@
 -- What is printed for an input: the roster's fault, or a line for each call line. Assumes nothing.
-use Rattle.std.specs.Prelude.{ℕ, cond, List, [], ◌∷◌, ◌++◌, map, pos, Some, None, Ok, Err, Option, Result}
+use Rattle.std.specs.Prelude.{ℕ, cond, List, [], ◌∷◌, map, pos, Some, None, Ok, Err, Option, Result}
 use Rattle.std.specs.List.{concat}
 use Rattle.table.specs.declared.table.Slot.{Slot}
 use Rattle.table.specs.declared.table.Table.{Table}

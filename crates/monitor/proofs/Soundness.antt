@@ -2,7 +2,7 @@
 use Rattle.std.proofs.Common.{◌≡◌, ℕ, ◌<◌, Bool, true, false, cond, List, [], ◌∷◌, map, length, take, Some, None, Ok, Err, Option, Result, unwrap_or, sym, refl, ap, ◌∙◌, subst, inr, arith}
 use Rattle.std.specs.List.{AllByRecursion as All}
 use Rattle.std.proofs.ByRecursion.{All-push}
-use Rattle.labels.specs.Laws.{Code, Lawful}
+use Rattle.labels.specs.Laws.{Lawful}
 use Rattle.table.specs.declared.table.Slot.{Slot}
 use Rattle.table.specs.declared.table.Table.{Table}
 use Rattle.table.specs.Slots.{person_at, label_at, is_listed, value_at}
@@ -26,7 +26,7 @@ use Rattle.noninterference.proofs.Strike.{struck}
 use Rattle.monitor.specs.declared.call.Call as call
 use Rattle.monitor.specs.declared.call.Answer as answer
 use Rattle.monitor.specs.declared.fault.MonitorFault.{MonitorFault}
-use Rattle.monitor.specs.Boxes.{unless_faulty, checked_rows, checked, box_of}
+use Rattle.monitor.specs.Boxes.{unless_faulty, checked_rows, box_of}
 use Rattle.monitor.specs.Calls.{answer_of}
 use Rattle.monitor.specs.Play.{made_calls, Answered, Played, Unmarked, BoxesAreUntraced}
 use Rattle.monitor.specs.Rosters.{with_roster}

@@ -3,7 +3,7 @@ use Rattle.std.proofs.Common.{◌≡◌, ℕ, suc, Bool, true, false, cond, ◌�
 use Rattle.table.specs.declared.table.Slot.{Slot}
 use Rattle.sheets.specs.Programs.{Block}
 use Rattle.running.specs.Running.{Outcome, done, cut, exec}
-use Rattle.noninterference.specs.Monitor.{Call, lay, view, run, Answer, laid, viewed, ran, refused, Fault, Monitor, settle, run_checked, lay_as, view_as, run_as, step, answers, final, CallsOneByOne}
+use Rattle.noninterference.specs.Monitor.{Call, lay, view, run, Answer, laid, refused, Fault, Monitor, settle, run_checked, lay_as, view_as, run_as, step, answers, final, CallsOneByOne}
 
 -- a refusal by one of two outcomes of a test
 kept_if : {s : List Slot} {a : Answer} (z : Bool) (x y : List Slot × Answer) → (cond z x y).1 ≡ a →

@@ -7,7 +7,6 @@ use Rattle.std.specs.Option.{unwrap_or}
 use Rattle.operations.specs.Operations.{numbered}
 use Rattle.operations.specs.declared.operation.Operation.{Operation as Op}
 use Rattle.operations.specs.declared.operation.Operation.TheVariants.{Sum}
-use Rattle.table.specs.Slots.{listed}
 use Rattle.rows.specs.Kinds.{uses, is_operation, is_slot, is_unused}
 use Rattle.rows.specs.declared.kind.Use.{Use}
 use Rattle.rows.specs.declared.fault.RowFault.{RowFault}

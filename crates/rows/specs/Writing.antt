@@ -6,7 +6,6 @@ use Rattle.std.specs.List.{AllByRecursion as All}
 use Rattle.operations.specs.Words.{Value}
 use Rattle.operations.specs.declared.operation.Operation.{Operation}
 use Rattle.operations.specs.declared.operation.Operation.TheVariants.{Sum, Difference, Product, Share, Equal, Less, Differing, Lesser}
-use Rattle.table.specs.Slots.{listed}
 use Rattle.rows.specs.Reading.{read_row}
 use Rattle.rows.specs.declared.row.Row.{Row}
 use Rattle.rows.specs.declared.row.Row.TheVariants.{Idle, PutConstant, SlotWithConstant, TwoSlots, If, Else, While, End}

@@ -1,4 +1,4 @@
-use Rattle.std.proofs.Common.{◌≡◌, arith}
+use Rattle.std.proofs.Common.{arith}
 use Rattle.std.proofs.lemmas.List.{at_drop_all}
 use Rattle.console.specs.Writing.{ends_in}
 use Rattle.console.proofs.Filling.{ends_here, ends_later}

@@ -1,4 +1,4 @@
-use Rattle.std.proofs.Common.{◌≡◌, ap, arith}
+use Rattle.std.proofs.Common.{ap, arith}
 use Rattle.console.specs.Writing.{room_for}
 use Rattle.console.proofs.Buffers.{first_of}
 use Rattle.console.proofs.buffered.room_for.Goals as goal

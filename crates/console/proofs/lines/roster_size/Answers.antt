@@ -1,6 +1,6 @@
-use Rattle.std.proofs.Common.{◌≡◌, Bool, true, false, ◌||◌, List, length, get_or, sym, ap, ◌∙◌, arith}
+use Rattle.std.proofs.Common.{length, get_or, sym, arith}
 use Rattle.std.proofs.lemmas.List.{at_drop_all}
-use Rattle.std.proofs.lemmas.Bool.{or_from, or_left, or_right, not-false}
+use Rattle.std.proofs.lemmas.Bool.{or_from, or_left, or_right}
 use Rattle.console.specs.Lines.{is_letter}
 use Rattle.console.proofs.Splitting.{size, cut_there, one_more, no_more}
 use Rattle.console.proofs.lines.roster_size.Goals as goal

@@ -1,4 +1,4 @@
-use Rattle.std.proofs.Common.{◌≡◌, length, take}
+use Rattle.std.proofs.Common.{length, take}
 use native.Mathlib.Nat.{sub-zero}
 use Rattle.console.proofs.Clipping.{run_clipped}
 use Rattle.console.proofs.reader.read_run.Goals as goal

@@ -1,10 +1,8 @@
-use Rattle.std.proofs.Common.{◌≡◌, ℕ, ◌-◌, ◌<◌, List, ◌∷◌, length, get_or, take, drop, Option, sym, ap, ◌∙◌, arith}
+use Rattle.std.proofs.Common.{◌≡◌, ℕ, ◌-◌, ◌<◌, List, ◌∷◌, length, get_or, take, drop, sym, ap, ◌∙◌, arith}
 use Rattle.std.specs.Option.{option_map}
 use Rattle.std.proofs.lemmas.Result.{IfOk-weaker}
 use Rattle.std.proofs.lemmas.Bool.{ltb-false}
-use Rattle.console.specs.declared.request.Request.{Request}
-use Rattle.noninterference.specs.Monitor.{Call}
-use Rattle.console.specs.Reading.{lay_in, view_in, run_in, call_in}
+use Rattle.console.specs.Reading.{run_in, call_in}
 use Rattle.console.specs.Windows.{asked}
 use Rattle.console.proofs.Cutting.{two_and_rest}
 use Rattle.console.proofs.request.read_request.Goals as goal

@@ -1,4 +1,4 @@
-use Rattle.std.proofs.Common.{◌≡◌, ◌<◌, ◌≤◌, length, sym, ap, arith}
+use Rattle.std.proofs.Common.{length, sym, ap, arith}
 use Rattle.numerals.proofs.Numbers.{written_one}
 use Rattle.console.proofs.Buffers.{in_turn, as_text, digits_split, length_split}
 use Rattle.console.proofs.writing.+write_number.Goals as goal

@@ -1,4 +1,4 @@
-use Rattle.std.proofs.Common.{◌<◌, ◌≤◌, length, arith}
+use Rattle.std.proofs.Common.{arith}
 use Rattle.console.proofs.Buffers.{in_turn, length_written}
 use Rattle.console.proofs.writing.write_field.Goals as goal
 

@@ -1,4 +1,4 @@
-use Rattle.std.proofs.Common.{◌≡◌, ℕ, length, ap, ◌∙◌, arith, rules}
+use Rattle.std.proofs.Common.{◌≡◌, ℕ, length, ap, ◌∙◌, rules}
 use Rattle.std.specs.Option.{option_map}
 use Rattle.console.specs.Clipping.{clipped}
 use Rattle.console.specs.Reading.{call_in}

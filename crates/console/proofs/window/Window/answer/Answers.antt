@@ -1,4 +1,3 @@
-use Rattle.std.proofs.Common.{◌≡◌}
 use Rattle.console.proofs.Stepping.{at_window}
 use Rattle.console.proofs.window.Window.answer.Goals as goal
 

@@ -1,4 +1,4 @@
-use Rattle.std.proofs.Common.{◌≡◌, refl}
+use Rattle.std.proofs.Common.{refl}
 use Rattle.console.proofs.Stepping.{at_window}
 use Rattle.console.proofs.window.Window.make.Goals as goal
 
