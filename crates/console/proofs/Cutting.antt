@@ -1,7 +1,7 @@
 -- Fields up to the first comma. Assumes nothing.
 use Rattle.std.proofs.Common.{◌≡◌, ℕ, zero, suc, ◌+◌, ◌-◌, ◌<◌, Bool, true, false, cond, eqb, List, [], ◌∷◌, ◌++◌, length, get_or, take, drop, Some, None, Option, sym, refl, ap, add-one, arith}
 use Rattle.std.specs.Option.{option_map}
-use Rattle.std.specs.List.{AllByRecursion as All}
+use Rattle.std.specs.List.{AllByRecursion}
 use Rattle.std.proofs.lemmas.List.{take_rest}
 use Rattle.std.proofs.lemmas.Bool.{eqb-true, ne_eqb}
 use Rattle.numerals.specs.Decimal.{written}
@@ -26,7 +26,7 @@ cut_none (b ∷ bs) none =
     rw (first, ih)
 
 -- a number up to a comma
-cut_digits : (xs rest : List ℕ) → All IsDigit xs → cut (xs ++ (44 ∷ rest)) ≡ Some (xs, rest)
+cut_digits : (xs rest : List ℕ) → AllByRecursion IsDigit xs → cut (xs ++ (44 ∷ rest)) ≡ Some (xs, rest)
 cut_digits [] rest all = refl
 cut_digits (x ∷ xs) rest all =
     let first : eqb x 44 ≡ false = ne_eqb x 44 (λ e. omega (arith, all.0.0)) in

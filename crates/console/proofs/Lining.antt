@@ -1,6 +1,6 @@
 -- The lines of an input are the input, cut after each byte 10. Assumes nothing.
 use Rattle.std.proofs.Common.{◌≡◌, ℕ, Bool, true, false, eqb, List, [], ◌∷◌, ◌++◌, sym, refl, ap, ◌∙◌, arith}
-use Rattle.std.specs.List.{flat_map, AllByRecursion as All}
+use Rattle.std.specs.List.{flat_map, AllByRecursion}
 use Rattle.std.proofs.ByRecursion.{All-push}
 use Rattle.std.proofs.lemmas.List.{append_assoc, append-nil}
 use Rattle.std.proofs.lemmas.Bool.{eqb-true, eqb-false}
@@ -8,13 +8,13 @@ use Rattle.console.specs.Lines.{Line, lines_from, lines_of, as_read, leads, lead
 use Rattle.console.specs.Cut.{Lined, none, not_ended, one_more, NoEndWithin, FirstDoesNotLead, LinesStand}
 
 abbrev NoEnd : List ℕ → Type 0
-NoEnd bytes = All (λ b. b ≡ 10 → ⊥) bytes
+NoEnd bytes = AllByRecursion (λ b. b ≡ 10 → ⊥) bytes
 
 -- the lines of a text after `begun`
 record CutFrom (begun text : List ℕ) : Type 0 where
   whole : flat_map as_read (lines_from begun text) ≡ begun ++ text
   lined : Lined (lines_from begun text)
-  no_end_within : NoEnd begun → All NoEndWithin (lines_from begun text)
+  no_end_within : NoEnd begun → AllByRecursion NoEndWithin (lines_from begun text)
 
 cut_last : (begun : List ℕ) → CutFrom begun []
 cut_last [] = record { whole = refl; lined = none; no_end_within = λ _. tt }
@@ -41,7 +41,7 @@ cut_from begun (b ∷ bs) = cut_next begun b bs (cut_from [] bs) (cut_from (begu
 
 record Parted (lines : List Line) : Type 0 where
   parts : leading lines ++ after_leading lines ≡ lines
-  all_lead : All (λ line. leads line.bytes ≡ true) (leading lines)
+  all_lead : AllByRecursion (λ line. leads line.bytes ≡ true) (leading lines)
   first_call : FirstDoesNotLead (after_leading lines)
 
 parted : (lines : List Line) → Parted lines

@@ -1,7 +1,7 @@
 -- A line is read as the call that it spells. Assumes nothing.
 use Rattle.std.proofs.Common.{◌≡◌, ℕ, zero, suc, ◌+◌, ◌*◌, ◌/◌, ◌%◌, ◌<◌, Bool, true, false, cond, ◌&&◌, eqb, ltb, List, [], ◌∷◌, ◌++◌, ℤ, pos, negsuc, Some, None, Option, sym, refl, ap, ◌∙◌, subst, arith, w32, SFits}
 use Rattle.std.specs.Option.{option_map}
-use Rattle.std.specs.List.{AllByRecursion as All}
+use Rattle.std.specs.List.{AllByRecursion}
 use Rattle.std.proofs.lemmas.Bool.{and_parts, and_from, cond-true, eqb-true, ne_eqb, ltb-true, lt-ltb}
 use Rattle.std.proofs.lemmas.Bool.Decides.{nat_tests}
 use Rattle.numerals.specs.Decimal.{written}
@@ -69,7 +69,7 @@ value_sound (b ∷ bs) v e = go (eqb b 45) refl e
         let told = below_sound 2147483648 (b ∷ bs) n.0 n.1 in
         subst (λ (x : ℤ). SFits w32 x × (b ∷ bs ≡ written_value x)) n.2 (record { sfits = omega (arith, told.0) }, told.1)
 
-value_digits : (field : List ℕ) (n : ℕ) → All IsDigit field → number_below 2147483648 field ≡ Some n → value_in field ≡ Some (pos n)
+value_digits : (field : List ℕ) (n : ℕ) → AllByRecursion IsDigit field → number_below 2147483648 field ≡ Some n → value_in field ≡ Some (pos n)
 value_digits [] n all e = absurd (none_some e)
 value_digits (b ∷ bs) n all e =
     let digit : eqb b 45 ≡ false = ne_eqb b 45 (λ h. omega (arith, all.0.0)) in
@@ -90,8 +90,8 @@ figure_digit d l = grind (arith, nat_tests)
 three : {a b x y : ℕ} {cs xs : List ℕ} → a ≡ x → b ≡ y → cs ≡ xs → a ∷ b ∷ cs ≡ x ∷ y ∷ xs
 three p q r = cc
 
-bytes_sound : (digits bs : List ℕ) → bytes_in digits ≡ Some bs → All (λ b. b < 256) bs × (digits ≡ hexadecimal bs)
-bytes_sound [] bs e = let is : [] ≡ bs = cc in subst (λ (x : List ℕ). All (λ b. b < 256) x × ([] ≡ hexadecimal x)) is (tt, refl)
+bytes_sound : (digits bs : List ℕ) → bytes_in digits ≡ Some bs → AllByRecursion (λ b. b < 256) bs × (digits ≡ hexadecimal bs)
+bytes_sound [] bs e = let is : [] ≡ bs = cc in subst (λ (x : List ℕ). AllByRecursion (λ b. b < 256) x × ([] ≡ hexadecimal x)) is (tt, refl)
 bytes_sound (high ∷ []) bs e = absurd (none_some e)
 bytes_sound (high ∷ low ∷ rest) bs e =
     let b = some_then (byte_of high low) (λ b. option_map (λ bs. b ∷ bs) (bytes_in rest)) bs e in
@@ -104,10 +104,10 @@ bytes_sound (high ∷ low ∷ rest) bs e =
     let is : h.0 * 16 + l.0 ≡ b.0 = cc in
     let q : b.0 / 16 ≡ h.0 = omega (arith, hs.0, ls.0, is) in
     let r : b.0 % 16 ≡ l.0 = omega (arith, hs.0, ls.0, is) in
-    subst (λ (x : List ℕ). All (λ b. b < 256) x × (high ∷ low ∷ rest ≡ hexadecimal x)) more.2
+    subst (λ (x : List ℕ). AllByRecursion (λ b. b < 256) x × (high ∷ low ∷ rest ≡ hexadecimal x)) more.2
     ((omega (arith, hs.0, ls.0, is), ih.0), three (hs.1 ∙ ap hexadecimal_digit (sym q)) (ls.1 ∙ ap hexadecimal_digit (sym r)) ih.1)
 
-bytes_hexadecimal : (bs : List ℕ) → All (λ b. b < 256) bs → bytes_in (hexadecimal bs) ≡ Some bs
+bytes_hexadecimal : (bs : List ℕ) → AllByRecursion (λ b. b < 256) bs → bytes_in (hexadecimal bs) ≡ Some bs
 bytes_hexadecimal [] all = refl
 bytes_hexadecimal (b ∷ bs) all =
     let whole : b / 16 * 16 + b % 16 ≡ b = omega arith in

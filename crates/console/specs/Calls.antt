@@ -1,7 +1,7 @@
 -- The line that spells a call, and what a line says. Assumes nothing.
 use Rattle.std.specs.Prelude.{◌≡◌, ℕ, ◌<◌, List, ◌∷◌, ◌++◌, Some, None, Option, FitsSigned, ◌≢◌}
 use Rattle.std.specs.Int.{w32}
-use Rattle.std.specs.List.{AllByRecursion as All}
+use Rattle.std.specs.List.{AllByRecursion}
 use Rattle.numerals.specs.Decimal.{written}
 use Rattle.noninterference.specs.Monitor.{Call, lay, view, run}
 use Rattle.console.specs.Fields.{written_value, hexadecimal}
@@ -16,7 +16,7 @@ spelled (run n sheet turns) = 82 ∷ 44 ∷ (written n ++ (44 ∷ (written turns
 abbrev pub InRange : Call → Type 0
 InRange (lay n i v) = (n < 256) × (i < 256) × FitsSigned w32 v
 InRange (view n i) = (n < 256) × (i < 256)
-InRange (run n sheet turns) = (n < 256) × (turns < 65536) × All (λ b. b < 256) sheet
+InRange (run n sheet turns) = (n < 256) × (turns < 65536) × AllByRecursion (λ b. b < 256) sheet
 
 -- a line says the call that it spells, and is faulty where it spells none
 pub data Says (line : List ℕ) : Option Call → Type 0 where

@@ -1,4 +1,4 @@
--- What a bits-where's bits are: of zero, of a power of two, of `&` and `|`, of a bits_where made from a test. Assumes nothing.
+-- What the bits of a number are: of zero, of a power of two, of `&` and `|`, of a mask made from a test. Assumes nothing.
 use Rattle.std.specs.Prelude.{◌≡◌, ℕ, zero, suc, ◌+◌, ◌*◌, ◌/◌, ◌%◌, ◌^◌, ◌<◌, Bool, true, false, cond, ◌&&◌, ◌||◌, ◌==◌, nat_eq, nat_lt, refl}
 use Rattle.std.proofs.Common.{sym, ap, ap₂, ◌∙◌, ⊎_elim, div-one, mod-lt, pow-suc, zero-add, one-mul, arith, shr-shr, pow_pos}
 use Rattle.std.proofs.Math.Nat.{zero-div}
@@ -95,7 +95,7 @@ same_bits =
     (λ b h. no_bits b (λ i. sym (h i) ∙ bit_zero i))
     (λ n ih b h. halves_same n b (ih (b / 2) (λ i. sym (bit_next i n) ∙ h (suc i) ∙ bit_next i b)) (lowest_same n b (h 0)))
 
--- ---- a bits_where made from a test
+-- ---- a mask made from a test
 
 pub where_below : (n : ℕ) (p : ℕ → Bool) → bits_where n p < 2 ^ n
 unfolding bits_where
@@ -134,7 +134,7 @@ unset_place i n p h =
     (λ o. over_place false (nat_lt i n) (nat_lt i (suc n)) (p i) refl (le-ltb i n (omega arith)) (le-ltb i (suc n) o)))
     (cases_order i n)
 
--- bit n and the bits of a bits_where below 2^n
+-- bit n and the bits of a mask below 2^n
 pub bit_above : (i n g : ℕ) → g < 2 ^ n → bit i (2 ^ n + g) ≡ (i == n || bit i g)
 bit_above i n g h =
     ap (λ (x : ℕ). bit i (x + g)) (sym (one-mul (2 ^ n)))

@@ -96,7 +96,7 @@ module _ (n : ℕ) (counts : ℕ → Bool) where
     join_fits = λ a b _ _. join_below n counts a b;
   }
 
--- ---- by a mask: the bits_where whose bits are those that count
+-- ---- by a mask, whose bits are those that count
 
 both_set : (x l c y : Bool) → ((l ≡ true) → (c && x) ≡ true → y ≡ true) → ((x && (l && c)) && y) ≡ (x && (l && c))
 both_set true true true y h = h refl refl

@@ -1,7 +1,7 @@
 -- A sheet that is read and judged is one that passes the check, and no other is. Assumes nothing.
 use Rattle.std.proofs.Common.{◌≡◌, ℕ, ◌<◌, Bool, List, None, Ok, Err, Option, Result, unwrap_or, sym, refl, ap, ◌∙◌, subst, arith}
 use mathlib.Core.Bool.{false≢true}
-use Rattle.std.specs.List.{AllByRecursion as All}
+use Rattle.std.specs.List.{AllByRecursion}
 use Rattle.table.specs.Slots.{is_listed}
 use Rattle.rows.specs.declared.row.Row.{Row}
 use Rattle.rows.specs.declared.fault.RowFault.{RowFault}
@@ -21,7 +21,7 @@ use Rattle.monitor.specs.Passing.{Passes}
 use Rattle.monitor.specs.Told.{FirstAgainst}
 use Rattle.monitor.specs.Vetting.{Vetted, not_read, not_passed, Checking}
 
-module _ (flows : ℕ → ℕ → Bool) (joins : ℕ → ℕ → ℕ) (labels : ℕ → Option ℕ) (p : ℕ) (bytes : List ℕ) (small : All (λ byte. byte < 256) bytes) where
+module _ (flows : ℕ → ℕ → Bool) (joins : ℕ → ℕ → ℕ) (labels : ℕ → Option ℕ) (p : ℕ) (bytes : List ℕ) (small : AllByRecursion (λ byte. byte < 256) bytes) where
   abbrev reading : Result (List Row) SheetFault
   reading = read_sheet (λ i. is_listed (labels i)) bytes
 
@@ -51,23 +51,23 @@ module _ (flows : ℕ → ℕ → Bool) (joins : ℕ → ℕ → ℕ) (labels : 
       let first = ((judged_exactly flows joins labels).first_at_fault p j.program.block f).0 (sym (j.answer j.program.block j.program.lists)) in
       record { here = first.0; before = first.1 }
 
-  pub vetted_checks : {A : Type 0} (rows_of_lem : A → List Row) (read : Result (List Row) SheetFault) (r : Result A MonitorFault) → reading ≡ read →
-      Vetted flows joins labels p rows_of_lem read r → Checking flows joins labels p bytes rows_of_lem r
-  vetted_checks rows_of_lem (Ok rows) (Ok x) e (are, j) =
+  pub vetted_checks : {A : Type 0} (to_rows : A → List Row) (read : Result (List Row) SheetFault) (r : Result A MonitorFault) → reading ≡ read →
+      Vetted flows joins labels p to_rows read r → Checking flows joins labels p bytes to_rows r
+  vetted_checks to_rows (Ok rows) (Ok x) e (are, j) =
       record {
         as_check = (j.program.block, judged_so rows (Ok tt) e j, j.program.lists ∙ are);
         exactly = (λ z. passes rows (Ok tt) e j refl, λ w. refl);
         let_in = (passes rows (Ok tt) e j refl, j.program.lists ∙ are);
       }
-  vetted_checks rows_of_lem (Ok rows) (Err why) e (f, is, j) =
+  vetted_checks to_rows (Ok rows) (Err why) e (f, is, j) =
       rw is
       (record {
         as_check = (sheet_fault (sheet.Row f), judged_so rows (Err f) e j, refl, refl);
         exactly = (λ z. absurd (false≢true z), λ w. let h = no_fault rows (Err f) e j w in let z : ◌≡◌ {A = ℕ} 0 1 = cc in absurd (omega arith));
         let_in = not_passed j.program.block (writes rows (Err f) e j) (against rows f j);
       })
-  vetted_checks rows_of_lem (Err f) (Ok x) e v = absurd v
-  vetted_checks rows_of_lem (Err f) (Err why) e is =
+  vetted_checks to_rows (Err f) (Ok x) e v = absurd v
+  vetted_checks to_rows (Err f) (Err why) e is =
       rw is
       (record {
         as_check = (sheet_fault f, ap (checked_rows flows joins labels p) e, refl, refl);

@@ -1,6 +1,6 @@
 -- The monitor of the table that an accepted roster lists is sound, under any scheme that keeps the laws. Assumes nothing.
 use Rattle.std.proofs.Common.{◌≡◌, ℕ, ◌<◌, Bool, true, false, cond, List, [], ◌∷◌, map, length, take, Some, None, Ok, Err, Option, Result, unwrap_or, sym, refl, ap, ◌∙◌, subst, inr, arith}
-use Rattle.std.specs.List.{AllByRecursion as All}
+use Rattle.std.specs.List.{AllByRecursion}
 use Rattle.std.proofs.ByRecursion.{All-push}
 use Rattle.labels.specs.Laws.{Lawful}
 use Rattle.table.specs.declared.table.Slot.{Slot}
@@ -33,11 +33,11 @@ use Rattle.monitor.specs.Rosters.{with_roster}
 
 -- ---- the labels that a roster gives are codes
 
-fit : {width : ℕ} {es : List Entry} → AllInOrder width es → All (λ e. e.label < label_limit width) es
+fit : {width : ℕ} {es : List Entry} → AllInOrder width es → AllByRecursion (λ e. e.label < label_limit width) es
 fit none = tt
 fit (one_more before e) = All-push _ _ _ (fit before) e.fits
 
-given_fits : (width : ℕ) (k : Kind) (i l : ℕ) (es : List Entry) → All (λ e. e.label < label_limit width) es → given k i es ≡ Some l → l < label_limit width
+given_fits : (width : ℕ) (k : Kind) (i l : ℕ) (es : List Entry) → AllByRecursion (λ e. e.label < label_limit width) es → given k i es ≡ Some l → l < label_limit width
 given_fits width k i l [] h e = let z : ◌≡◌ {A = ℕ} 0 1 = cc in absurd (omega arith)
 given_fits width k i l (x ∷ es) h e = go (given_fits width k i l es h.1) (names k i x) e where
   go : (given k i es ≡ Some l → l < label_limit width) → (b : Bool) → cond b (Some x.label) (given k i es) ≡ Some l → l < label_limit width

@@ -1,7 +1,7 @@
 -- Numbers in decimal digits: how they grow by a digit, that they are digits, and that they have their value back. Assumes nothing.
 use Rattle.std.proofs.Common.{◌≡◌, ℕ, zero, suc, ◌+◌, ◌-◌, ◌*◌, ◌/◌, ◌%◌, ◌^◌, ◌<◌, ◌≤◌, Bool, true, false, cond, eqb, ltb, leb, List, [], ◌∷◌, ◌++◌, map, length, get_or, take, Some, None, decimal, sym, refl, ap, ◌∙◌, subst, arith}
 use Rattle.std.specs.Int.Digits.{digits_of, number_from_digits}
-use Rattle.std.specs.List.{AllByRecursion as All}
+use Rattle.std.specs.List.{AllByRecursion}
 use Rattle.std.proofs.lemmas.Fmt.{decimal_digit, decimal-digits_of}
 use Rattle.std.proofs.lemmas.Int.Digits.{digits_of_step, first_digits_of, all_below_base_digits_of, number_digits_of, number_push}
 use Rattle.std.proofs.ByRecursion.{All-map, All-weaker}
@@ -21,7 +21,7 @@ digit_bounds b h = let p = and_parts (leb 48 b) (leb b 57) h in (leb-true 48 b p
 pub digit_from : (b : ℕ) → IsDigit b → is_digit b ≡ true
 digit_from b h = and_from (leb 48 b) (leb b 57) (le-leb 48 b h.0) (le-leb b 57 h.1)
 
-digits_from : (bs : List ℕ) → All IsDigit bs → all_digits bs ≡ true
+digits_from : (bs : List ℕ) → AllByRecursion IsDigit bs → all_digits bs ≡ true
 digits_from [] all = refl
 digits_from (b ∷ bs) all = and_from (is_digit b) (all_digits bs) (digit_from b all.0) (digits_from bs all.1)
 
@@ -55,7 +55,7 @@ written_one (suc d) l =
     ∙ (ap (λ (x : ℕ). map (λ y. 48 + y) (digits_of 10 x ++ (suc d % 10 ∷ []))) q
     ∙ ap (λ (x : ℕ). map (λ y. 48 + y) (x ∷ [])) m)
 
-pub written_digits : (n : ℕ) → All IsDigit (written n)
+pub written_digits : (n : ℕ) → AllByRecursion IsDigit (written n)
 unfolding written
 written_digits zero = ((omega arith, omega arith), tt)
 written_digits (suc n) =
@@ -115,7 +115,7 @@ from_number (b ∷ bs) h =
         (0, ap (λ (x : ℕ). x ∷ bs) (eqb-true b 48 e) ∙ ap (λ (xs : List ℕ). 48 ∷ xs) (nil_from_length bs none))
     go false e some all = longer b bs (eqb-false b 48 e) all
 
-number_by : (bs : List ℕ) → All IsDigit bs → 48 < get_or bs 0 0 → is_number bs ≡ true
+number_by : (bs : List ℕ) → AllByRecursion IsDigit bs → 48 < get_or bs 0 0 → is_number bs ≡ true
 number_by [] all first = absurd (omega (arith, first))
 number_by (b ∷ bs) all first =
     let begun : begins_number (b ∷ bs) ≡ true =

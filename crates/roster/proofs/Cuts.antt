@@ -1,15 +1,15 @@
 -- Digits up to the first byte that is none. Assumes nothing.
 use Rattle.std.proofs.Common.{◌≡◌, ℕ, ◌+◌, ◌<◌, List, [], ◌∷◌, ◌++◌, length, get_or, take, drop, sym, refl, ap, ◌∙◌, arith}
-use Rattle.std.specs.List.{AllByRecursion as All}
+use Rattle.std.specs.List.{AllByRecursion}
 use Rattle.std.proofs.ByRecursion.{All-get_or}
 use Rattle.std.proofs.lemmas.List.{take_at, drop_at, get_or_at, get_or_append_left, append_assoc, length_push, length-append}
 use Rattle.numerals.proofs.Numbers.{IsDigit}
 
-apart : (xs : List ℕ) (sep : ℕ) → sep < 48 → All IsDigit xs → (j : ℕ) → j < length xs → get_or xs j 0 ≡ sep → ⊥
+apart : (xs : List ℕ) (sep : ℕ) → sep < 48 → AllByRecursion IsDigit xs → (j : ℕ) → j < length xs → get_or xs j 0 ≡ sep → ⊥
 apart xs sep low ds j l e = let d = All-get_or IsDigit xs j 0 l ds in omega (arith, d.0)
 
 -- digits up to the first byte `sep`, and what comes after it
-pub cut_at : (xs ys bs : List ℕ) (sep i : ℕ) → sep < 48 → All IsDigit xs → bs ≡ xs ++ (sep ∷ ys) → i < length bs → get_or bs i 0 ≡ sep → ((j : ℕ) → j < i → get_or bs j 0 ≡ sep → ⊥) → (take i bs ≡ xs) × (drop (i + 1) bs ≡ ys)
+pub cut_at : (xs ys bs : List ℕ) (sep i : ℕ) → sep < 48 → AllByRecursion IsDigit xs → bs ≡ xs ++ (sep ∷ ys) → i < length bs → get_or bs i 0 ≡ sep → ((j : ℕ) → j < i → get_or bs j 0 ≡ sep → ⊥) → (take i bs ≡ xs) × (drop (i + 1) bs ≡ ys)
 cut_at xs ys bs sep i low ds e l here before =
     let there : get_or bs (length xs) 0 ≡ sep = ap (λ (x : List ℕ). get_or x (length xs) 0) e ∙ get_or_at xs sep ys 0 (length xs) refl in
     let early : i < length xs → ⊥ = λ k. apart xs sep low ds i k (sym (get_or_append_left xs (sep ∷ ys) 0 i k) ∙ (ap (λ (x : List ℕ). get_or x i 0) (sym e) ∙ here)) in

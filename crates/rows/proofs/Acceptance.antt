@@ -2,7 +2,7 @@
 use Rattle.std.proofs.Common.{◌≡◌, ℕ, zero, suc, ◌<◌, ◌≤◌, Bool, true, false, ◌&&◌, ltb, List, [], ◌∷◌, map, length, Ok, unwrap_or, sym, refl, subst, ⊎_elim, arith}
 use Rattle.std.proofs.lemmas.List.FromFn.{fill_by_all}
 use Rattle.std.proofs.lemmas.Bool.{and_parts, cases_Bool, cases_eq, cases_lt, ltb-true}
-use Rattle.std.specs.List.{range_with_len, AllByRecursion as All}
+use Rattle.std.specs.List.{range_with_len, AllByRecursion}
 use Rattle.operations.specs.Operations.{numbered}
 use Rattle.operations.specs.Words.{Value}
 use Rattle.operations.specs.declared.operation.Operation.{Operation}
@@ -13,7 +13,7 @@ use Rattle.rows.specs.Kinds.{is_operation, is_slot, is_unused}
 use Rattle.rows.specs.Reading.{byte_at, read_row, row_from, use_at}
 use Rattle.rows.specs.Refusing.Against.{kind_above, operation_above, slot_not_listed, unused_not_zero}
 use Rattle.rows.specs.Writing.{Writes, RowsAreRead, bytes_of, constants_of, operation_number, slots_of}
-use Rattle.rows.specs.declared.fault.RowReason.TheVariants.{Kind, Operation as Operation-fault, NotListed, NotZero}
+use Rattle.rows.specs.declared.fault.RowReason.TheVariants.{Kind, Operation as OperationFault, NotListed, NotZero}
 use Rattle.rows.specs.declared.row.Row.{Row}
 use Rattle.rows.specs.declared.row.Row.TheVariants.{Idle, PutConstant, SlotWithConstant, TwoSlots, If, Else, While, End}
 
@@ -22,7 +22,7 @@ module _ {lists : ℕ → Bool} {bytes : List ℕ} (clear : NoFault lists bytes)
   kind_is_one = ⊎_elim (λ l. absurd (clear Kind (kind_above l))) (λ l. l) (cases_lt 7 (byte_at bytes 0))
 
   operation_is_one : is_operation (use_at bytes 1) ≡ true → byte_at bytes 1 ≤ 7
-  operation_is_one u = ⊎_elim (λ l. absurd (clear Operation-fault (operation_above u l))) (λ l. l) (cases_lt 7 (byte_at bytes 1))
+  operation_is_one u = ⊎_elim (λ l. absurd (clear OperationFault (operation_above u l))) (λ l. l) (cases_lt 7 (byte_at bytes 1))
 
   names : (k : ℕ) → (ltb k 8 && is_slot (use_at bytes k)) ≡ true → lists (byte_at bytes k) ≡ true
   names k e =
@@ -116,8 +116,8 @@ operation_numbered Lesser = (refl, refl)
 
 -- what is written is read
 module _ (lists : ℕ → Bool) (number : ℕ) where
-  write_reads : (row : Row) → All (λ slot. lists slot ≡ true) (slots_of row) →
-      All Value (constants_of row) →
+  write_reads : (row : Row) → AllByRecursion (λ slot. lists slot ≡ true) (slots_of row) →
+      AllByRecursion Value (constants_of row) →
       read_row lists number (bytes_of row) ≡ Ok row
   write_reads Idle s v = refl
   write_reads (PutConstant target constant) s v = rw (s.0, joined_bytes constant v.0)
@@ -136,9 +136,9 @@ module _ (lists : ℕ → Bool) (number : ℕ) where
 eight : (bytes : List ℕ) → length bytes ≡ 8 → bytes ≡ map (byte_at bytes) (range_with_len 0 8)
 eight bytes e = fill_by_all (byte_at bytes) bytes 8 0 e (λ k l. refl)
 
-clear_writes : (lists : ℕ → Bool) (bytes : List ℕ) → length bytes ≡ 8 → All (λ byte. byte < 256) bytes → NoFault lists bytes → Writes lists bytes (row_from bytes)
+clear_writes : (lists : ℕ → Bool) (bytes : List ℕ) → length bytes ≡ 8 → AllByRecursion (λ byte. byte < 256) bytes → NoFault lists bytes → Writes lists bytes (row_from bytes)
 clear_writes lists bytes e =
-    subst (λ bs. All (λ byte. byte < 256) bs → NoFault lists bs → Writes lists bs (row_from bs)) (sym (eight bytes e))
+    subst (λ bs. AllByRecursion (λ byte. byte < 256) bs → NoFault lists bs → Writes lists bs (row_from bs)) (sym (eight bytes e))
     (λ small h.
     let tail = small.1.1.1.1 in
     read_writes lists _ _ _ _ _ _ _ tail.0 tail.1.0 tail.1.1.0 tail.1.1.1.0 _ h)

@@ -2,7 +2,7 @@
 use Rattle.std.specs.Prelude.{◌≡◌, ℕ, ◌/◌, ◌%◌, ◌^◌, ◌<◌, Bool, true, List, [], ◌∷◌, length, ℤ, Ok}
 use Rattle.std.specs.Int.{w32}
 use Rattle.std.proofs.Common.{of_z}
-use Rattle.std.specs.List.{AllByRecursion as All}
+use Rattle.std.specs.List.{AllByRecursion}
 use Rattle.operations.specs.Words.{Value}
 use Rattle.operations.specs.declared.operation.Operation.{Operation}
 use Rattle.operations.specs.declared.operation.Operation.TheVariants.{Sum, Difference, Product, Share, Equal, Less, Differing, Lesser}
@@ -64,8 +64,8 @@ constants_of End = []
 -- the bytes write the row, each slot that it names is listed, and its constant is a value
 pub record Writes (lists : ℕ → Bool) (bytes : List ℕ) (row : Row) : Type 0 where
   pub written : bytes ≡ bytes_of row
-  pub listed_slots : All (λ slot. lists slot ≡ true) (slots_of row)
-  pub values : All Value (constants_of row)
+  pub listed_slots : AllByRecursion (λ slot. lists slot ≡ true) (slots_of row)
+  pub values : AllByRecursion Value (constants_of row)
 
 -- eight bytes are read as a row exactly if they write it
 pub record RowReading (lists : ℕ → Bool) (number : ℕ) (bytes : List ℕ) (row : Row) : Type 0 where
@@ -75,4 +75,4 @@ pub record RowReading (lists : ℕ → Bool) (number : ℕ) (bytes : List ℕ) (
 abbrev pub RowsAreRead : Type 0
 RowsAreRead =
     (lists : ℕ → Bool) (number : ℕ) (bytes : List ℕ) (row : Row) →
-    length bytes ≡ 8 → All (λ byte. byte < 256) bytes → RowReading lists number bytes row
+    length bytes ≡ 8 → AllByRecursion (λ byte. byte < 256) bytes → RowReading lists number bytes row

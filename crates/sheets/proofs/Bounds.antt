@@ -1,6 +1,6 @@
 -- A slot that is listed is one of the 64. Assumes nothing.
 use Rattle.std.proofs.Common.{◌≡◌, ℕ, zero, suc, ◌<◌, Bool, true, false, ◌&&◌, ltb, List, [], ◌∷◌, length, get_or, IfOk, Ok, Err, Result, sym, refl, ap₂, arith, ltb-true, lt-ltb}
-use Rattle.std.specs.List.{AllByRecursion as All}
+use Rattle.std.specs.List.{AllByRecursion}
 use Rattle.table.specs.Slots.{listed}
 use Rattle.table.specs.declared.table.Slot.{Slot}
 use Rattle.rows.proofs.Acceptance.{rows_are_read}
@@ -16,13 +16,13 @@ listed_below [] k e = let z : ◌≡◌ {A = ℕ} 0 1 = cc in absurd (omega arit
 listed_below (s ∷ slots) zero e = omega arith
 listed_below (s ∷ slots) (suc k) e = omega (arith, listed_below slots k e)
 
-pub listed_in_range : (slots : List Slot) (ks : List ℕ) → length slots ≡ 64 → All (λ k. listed slots k ≡ true) ks → in_range ks ≡ true
+pub listed_in_range : (slots : List Slot) (ks : List ℕ) → length slots ≡ 64 → AllByRecursion (λ k. listed slots k ≡ true) ks → in_range ks ≡ true
 listed_in_range slots [] long h = refl
 listed_in_range slots (k ∷ ks) long h =
     ap₂ (λ (a b : Bool). a && b) (lt-ltb k 64 (omega (arith, long, listed_below slots k h.0))) (listed_in_range slots ks long h.1)
 
 -- the slots of a row that is read
-pub read_in_range : (slots : List Slot) (i : ℕ) (bytes : List ℕ) → length slots ≡ 64 → length bytes ≡ 8 → All (λ byte. byte < 256) bytes → (s : Result Row RowFault) → s ≡ read_row (listed slots) i bytes → IfOk s (λ r. in_range (slots_of r) ≡ true)
+pub read_in_range : (slots : List Slot) (i : ℕ) (bytes : List ℕ) → length slots ≡ 64 → length bytes ≡ 8 → AllByRecursion (λ byte. byte < 256) bytes → (s : Result Row RowFault) → s ≡ read_row (listed slots) i bytes → IfOk s (λ r. in_range (slots_of r) ≡ true)
 read_in_range slots i bytes long eight small (Err f) e = tt
 read_in_range slots i bytes long eight small (Ok r) e =
     listed_in_range slots (slots_of r) long ((rows_are_read (listed slots) i bytes r eight small).only_written (sym e)).listed_slots
@@ -32,12 +32,12 @@ both true b e = (refl, e)
 both false b e = let z : ◌≡◌ {A = ℕ} 0 1 = cc in absurd (omega arith)
 
 -- each of the slots is below 64
-pub each_below : (ks : List ℕ) → in_range ks ≡ true → All (λ k. k < 64) ks
+pub each_below : (ks : List ℕ) → in_range ks ≡ true → AllByRecursion (λ k. k < 64) ks
 each_below [] e = tt
 each_below (k ∷ ks) e = let p = both (ltb k 64) (in_range ks) e in (ltb-true k 64 p.0, each_below ks p.1)
 
 -- each slot that row i names is below 64
-pub slots_below : (rows : List Row) (i : ℕ) → all_within rows ≡ true → i < length rows → All (λ k. k < 64) (slots_of (get_or rows i Idle))
+pub slots_below : (rows : List Row) (i : ℕ) → all_within rows ≡ true → i < length rows → AllByRecursion (λ k. k < 64) (slots_of (get_or rows i Idle))
 slots_below [] i e h = absurd (omega (arith, h))
 slots_below (r ∷ rows) zero e h = each_below (slots_of r) (both (in_range (slots_of r)) (all_within rows) e).0
 slots_below (r ∷ rows) (suc i) e h = slots_below rows i (both (in_range (slots_of r)) (all_within rows) e).1 (omega (arith, h))

@@ -257,6 +257,6 @@ sheets_are_refused lists bytes f small =
     }
 
 -- a sheet that is made as reading says
-pub made_means : {A : Type 0} (lists : ℕ → Bool) (bytes : List ℕ) (rows_of_lem : A → List Row) → Bytes bytes → (r : Result A SheetFault) → Made (read_sheet lists bytes) rows_of_lem r → Means lists bytes rows_of_lem r
-made_means lists bytes rows_of_lem small (Ok sheet) e = (sheets_are_read lists bytes (rows_of_lem sheet) small).only_written e
-made_means lists bytes rows_of_lem small (Err f) e = (sheets_are_refused lists bytes f small).only_first e
+pub made_means : {A : Type 0} (lists : ℕ → Bool) (bytes : List ℕ) (to_rows : A → List Row) → Bytes bytes → (r : Result A SheetFault) → Made (read_sheet lists bytes) to_rows r → Means lists bytes to_rows r
+made_means lists bytes to_rows small (Ok sheet) e = (sheets_are_read lists bytes (to_rows sheet) small).only_written e
+made_means lists bytes to_rows small (Err f) e = (sheets_are_refused lists bytes f small).only_first e

@@ -2,7 +2,7 @@
 use Rattle.std.proofs.Common.{◌≡◌, ℕ, zero, suc, ◌+◌, ◌*◌, ◌<◌, ◌≤◌, Bool, List, [], ◌∷◌, ◌++◌, length, take, drop, Ok, Err, Result, sym, refl, ap, ◌∙◌, append_assoc, add-zero, arith, length-drop}
 use Rattle.std.proofs.ByRecursion.{All-take, All-drop}
 use Rattle.std.proofs.lemmas.List.{length-take-le}
-use Rattle.std.specs.List.{flat_map, AllByRecursion as All}
+use Rattle.std.specs.List.{flat_map, AllByRecursion}
 use Rattle.rows.proofs.Acceptance.{rows_are_read}
 use Rattle.rows.proofs.Refusals.{rows_are_refused}
 use Rattle.rows.specs.Reading.{read_row}
@@ -19,7 +19,7 @@ use Rattle.sheets.specs.declared.walker.Open.{Open}
 use Rattle.sheets.proofs.Beginnings.{entered_not}
 
 abbrev pub Bytes : List ℕ → Type 0
-Bytes bytes = All (λ byte. byte < 256) bytes
+Bytes bytes = AllByRecursion (λ byte. byte < 256) bytes
 
 -- why the row at `at` is refused, with these blocks open
 pub data Why (lists : ℕ → Bool) (at : ℕ) (st : List Open) (eight : List ℕ) (f : RowFault) : Type 0 where

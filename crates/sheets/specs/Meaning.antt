@@ -1,7 +1,7 @@
 -- What reading a sheet means: a sheet that is read writes the rows of a program, and a refusal names the first fault.
 -- Assumes nothing.
 use Rattle.std.specs.Prelude.{◌≡◌, ℕ, ◌%◌, ◌<◌, ◌≤◌, Bool, List, [], ◌∷◌, ◌++◌, length, Ok, Err, Result}
-use Rattle.std.specs.List.{flat_map, AllByRecursion as All}
+use Rattle.std.specs.List.{flat_map, AllByRecursion}
 use Rattle.rows.specs.Refusing.{FirstFault}
 use Rattle.rows.specs.Writing.{bytes_of, Writes}
 use Rattle.rows.specs.declared.row.Row.{Row}
@@ -17,7 +17,7 @@ use Rattle.sheets.specs.declared.fault.SheetFault.TheVariants as fault
 
 -- in each row the slots are listed, and the constant is a value
 abbrev pub LawfulRows : (ℕ → Bool) → List Row → Type 0
-LawfulRows lists rows = All (λ r. Writes lists (bytes_of r) r) rows
+LawfulRows lists rows = AllByRecursion (λ r. Writes lists (bytes_of r) r) rows
 
 -- the bytes write the rows of a program, row after row
 pub record Written (lists : ℕ → Bool) (bytes : List ℕ) (rows : List Row) : Type 0 where
@@ -89,8 +89,8 @@ Refused lists bytes (fault.StillOpen k) = LawfulLength bytes × LeftOpen lists b
 
 -- what it means that a sheet is made of the bytes, or that they are refused
 abbrev pub Means : {A : Type 0} → (ℕ → Bool) → List ℕ → (A → List Row) → Result A SheetFault → Type 0
-Means lists bytes rows_of_lem (Ok sheet) = Written lists bytes (rows_of_lem sheet)
-Means lists bytes rows_of_lem (Err f) = Refused lists bytes f
+Means lists bytes to_rows (Ok sheet) = Written lists bytes (to_rows sheet)
+Means lists bytes to_rows (Err f) = Refused lists bytes f
 
 -- the bytes are read as these rows exactly if they write them, as the rows of a program
 pub record SheetReading (lists : ℕ → Bool) (bytes : List ℕ) (rows : List Row) : Type 0 where
@@ -100,7 +100,7 @@ pub record SheetReading (lists : ℕ → Bool) (bytes : List ℕ) (rows : List R
 abbrev pub SheetsAreRead : Type 0
 SheetsAreRead =
     (lists : ℕ → Bool) (bytes : List ℕ) (rows : List Row) →
-    All (λ byte. byte < 256) bytes → SheetReading lists bytes rows
+    AllByRecursion (λ byte. byte < 256) bytes → SheetReading lists bytes rows
 
 -- the bytes are refused for a fault exactly if it is the first
 pub record SheetRefusing (lists : ℕ → Bool) (bytes : List ℕ) (f : SheetFault) : Type 0 where
@@ -110,4 +110,4 @@ pub record SheetRefusing (lists : ℕ → Bool) (bytes : List ℕ) (f : SheetFau
 abbrev pub SheetsAreRefused : Type 0
 SheetsAreRefused =
     (lists : ℕ → Bool) (bytes : List ℕ) (f : SheetFault) →
-    All (λ byte. byte < 256) bytes → SheetRefusing lists bytes f
+    AllByRecursion (λ byte. byte < 256) bytes → SheetRefusing lists bytes f

@@ -52,5 +52,5 @@ all_within (r ∷ rows) = in_range (slots_of r) && all_within rows
 
 -- a sheet is made of the rows that are read, or refused as reading refuses it
 abbrev pub Made : {A : Type 0} → Result (List Row) SheetFault → (A → List Row) → Result A SheetFault → Type 0
-Made read rows_of_lem (Ok sheet) = read ≡ Ok (rows_of_lem sheet)
-Made read rows_of_lem (Err f) = read ≡ Err f
+Made read to_rows (Ok sheet) = read ≡ Ok (to_rows sheet)
+Made read to_rows (Err f) = read ≡ Err f

@@ -1,5 +1,5 @@
 use Rattle.std.proofs.Common.{◌≡◌, ◌*◌, ◌<◌, length, take, drop, ap, ◌∙◌, arith, length-drop, rules}
-use Rattle.std.specs.List.{AllByRecursion as All}
+use Rattle.std.specs.List.{AllByRecursion}
 use Rattle.std.proofs.ByRecursion.{All-from_get_or, All-take, All-drop}
 use Rattle.std.proofs.lemmas.List.{length-take-le}
 use Rattle.table.specs.Slots.{listed}
@@ -14,7 +14,7 @@ returns c =
     let from = 8 * c.args.at in
     let long : length slots ≡ 64 = search rules in
     let eight : length (take 8 (drop from bytes)) ≡ 8 = length-take-le 8 (drop from bytes) (omega (arith, length-drop from bytes, c.requires)) in
-    let small : All (λ byte. byte < 256) bytes = All-from_get_or (λ byte. byte < 256) bytes 0 (λ k h. (c.type_inv.bytes k).fits) in
+    let small : AllByRecursion (λ byte. byte < 256) bytes = All-from_get_or (λ byte. byte < 256) bytes 0 (λ k h. (c.type_inv.bytes k).fits) in
     let read = c.read_row.ensures ∙ ap (read_row (listed slots) c.args.at) c.row_bytes.ensures in
     record {
       read = read;

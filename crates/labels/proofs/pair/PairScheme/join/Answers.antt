@@ -2,7 +2,7 @@ use Rattle.std.proofs.Common.{◌+◌, ◌-◌, ◌≤◌, true, leb, sym, lt_of
 use Rattle.std.proofs.lemmas.Bool.{leb-true}
 use Rattle.labels.proofs.pair.PairScheme.join.Goals as goal
 
--- each part's join is below two to the power of its scheme's bits, and the bitss add up to at most 64
+-- each part's join is below two to the power of its scheme's width, and the widths add up to at most 64
 pub rejoin-requires : goal.rejoin-requires
 rejoin-requires g c =
     let s = c.args.self.now in
