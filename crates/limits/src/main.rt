@@ -3,8 +3,8 @@
 //! viewed, the turns that were taken, or the count of a cut.
 #![tactic(auto)]
 
-mod rosters;
-mod sheets;
+mod roster_limits;
+mod sheet_limits;
 
 use anyhow::anyhow;
 use labels::{Ladder, Pair, SchemeFault, Topics};
@@ -73,8 +73,8 @@ fn tell(rt: &HostRuntime) -> anyhow::Result<()> {
     let Ok(mut rostered) = blank() else {
         return Err(anyhow!("the scheme cannot be built"));
     };
-    rosters::tell(rt)?;
-    sheets::tell(rt, &mut rostered)?;
+    roster_limits::tell(rt)?;
+    sheet_limits::tell(rt, &mut rostered)?;
     Ok(())
 }
 
