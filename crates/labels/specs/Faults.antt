@@ -12,5 +12,5 @@ in_range most n = nat_le 1 n && nat_le n most
 
 -- A constructor that is asked for size n builds a scheme of just that size if n is in range, and otherwise refuses and builds nothing.
 abbrev pub Built : {S : Type 0} → ℕ → ℕ → (S → ℕ) → Result S SchemeFault → Type 0
-Built most n type_size (Ok s) = (in_range most n ≡ true) × (type_size s ≡ n)
-Built most n type_size (Err fault) = (in_range most n ≡ false) × (fault ≡ Size)
+Built most n size_of (Ok s) = (in_range most n ≡ true) × (size_of s ≡ n)
+Built most n size_of (Err fault) = (in_range most n ≡ false) × (fault ≡ Size)

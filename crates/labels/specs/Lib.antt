@@ -4,6 +4,7 @@ pub mod Bits
 pub mod Schemes
 pub mod Words
 pub mod Caps
+pub mod Ladders
 pub mod Inclusion
 pub mod BitLaws
 pub mod Masks

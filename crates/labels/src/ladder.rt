@@ -1,7 +1,7 @@
 ghost use Rattle.std.specs.Prelude.{◌≡◌, ◌≤◌};
 ghost use Rattle.labels.specs.Faults.{Built};
 ghost use Rattle.labels.specs.Schemes.{level, ladder_flows, ladder_joins, ladder_bits};
-ghost use Rattle.std.proofs.Common.{rules, arith};
+ghost use Rattle.labels.specs.Ladders.{ladder_lawful};
 
 use crate::fault::SchemeFault;
 use crate::scheme::Scheme;
@@ -39,7 +39,7 @@ impl Scheme for Ladder {
 
     ghost bits = { λ s. ladder_bits };
 
-    ghost lawful = { first_of (Prim.search rules, Prim.grind (arith, Self.row.coded.inj)) };
+    ghost lawful = { λ s. ladder_lawful s.levels s.range.0 s.range.1 };
 
     fn flows_to(&self, a: u64, b: u64) -> bool {
         self.level(a) <= self.level(b)
