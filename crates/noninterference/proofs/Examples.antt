@@ -10,7 +10,7 @@ use Rattle.judging.specs.Typing.{Typed, reads_constant, reads_with_constant, rea
 use Rattle.noninterference.specs.Noninterference.{Codes, Agree, Alike, both_done, both_cut, Noninterfering}
 use Rattle.noninterference.specs.Monitor.{Call, lay, view, run, Answer, viewed, ran}
 use Rattle.noninterference.specs.Strike.{Sound, Untraced}
-use Rattle.noninterference.specs.Examples.{two_labels, two_values, copies_up, every_rule, copies_down, branches, takes_turns, monitor_with, Examples}
+use Rattle.noninterference.specs.Examples.{two_labels, two_values, copies_up, every_rule, copies_down, branches, takes_turns, monitor_with, AnsweredAlike, Examples}
 use Rattle.noninterference.proofs.Noninterference.{noninterference}
 
 numbers : Lawful leb max 64
@@ -114,8 +114,11 @@ differ : (replies : List Answer) → replies ≡ ran 0 ∷ viewed (pos 7) ∷ []
 differ replies p q = let z : ◌≡◌ {A = ℕ} 7 0 = cc in omega arith
 
 -- person 0 is answered with 7, and without that first call with 0
+down_told : ¬ AnsweredAlike (monitor_with copies_down) (two_values (pos 0) (pos 0))
+down_told alike = differ _ refl (alike 0 (omega arith) calls)
+
 down_traced : ¬ Untraced (monitor_with copies_down) (two_values (pos 0) (pos 0))
-down_traced untraced = differ _ refl (untraced.answered 0 (omega arith) calls)
+down_traced untraced = down_told untraced.answered
 
 pub examples : Examples
 examples = record {
@@ -130,4 +133,5 @@ examples = record {
   turns_not_typed = not_typed turns_interfere;
   up_sound = up_sound;
   down_traced = down_traced;
+  down_told = down_told;
 }

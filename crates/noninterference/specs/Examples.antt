@@ -2,15 +2,16 @@
 -- to tell what stands in slot 1 to a person who may not view it. Assumes nothing.
 --
 -- There are slots 0 and 1 and people 0 and 1, with the labels 0 and 5, ordered as numbers. The runner is person 0.
-use Rattle.std.specs.Prelude.{ℕ, zero, suc, max, List, [], ◌∷◌, ℤ, pos, Some, None, Option, nat_le}
+use Rattle.std.specs.Prelude.{◌≡◌, ℕ, zero, suc, max, List, [], ◌∷◌, ℤ, pos, Some, None, Option, nat_le}
 use Rattle.std.proofs.Common.{inr}
+use Rattle.labels.specs.Laws.{Code}
 use Rattle.operations.specs.declared.operation.Operation.TheVariants.{Lesser}
 use Rattle.table.specs.declared.table.Slot.{Slot}
 use Rattle.sheets.specs.Programs.{constant, with_constant, two_slots, skip, assign, Block, nil, simple, when, either, while}
 use Rattle.judging.specs.Typing.{Typed}
 use Rattle.noninterference.specs.Noninterference.{Noninterfering}
-use Rattle.noninterference.specs.Monitor.{Monitor}
-use Rattle.noninterference.specs.Strike.{Sound, Untraced}
+use Rattle.noninterference.specs.Monitor.{Call, Monitor, answers}
+use Rattle.noninterference.specs.Strike.{Sound, Untraced, kept, strike}
 
 abbrev pub two_labels : ℕ → Option ℕ
 two_labels zero = Some 0
@@ -55,6 +56,10 @@ monitor_with b = record {
   check = λ p sheet. inr b;
 }
 
+-- each call that is left when others are struck out gets the same answer: the second law alone
+abbrev pub AnsweredAlike : Monitor → List Slot → Type 0
+AnsweredAlike M slots = (ℓ : ℕ) → Code ℓ → (calls : List Call) → kept M ℓ calls (answers M slots calls) ≡ answers M slots (strike M ℓ calls)
+
 pub record Examples : Type 0 where
   pub up_typed : Typed nat_le max two_labels 0 0 copies_up
   pub rules_typed : Typed nat_le max two_labels 0 0 every_rule
@@ -68,3 +73,5 @@ pub record Examples : Type 0 where
   pub turns_not_typed : ¬ Typed nat_le max two_labels 0 0 takes_turns
   pub up_sound : Sound (monitor_with copies_up)
   pub down_traced : ¬ Untraced (monitor_with copies_down) (two_values (pos 0) (pos 0))
+  -- the answers alone give it away
+  pub down_told : ¬ AnsweredAlike (monitor_with copies_down) (two_values (pos 0) (pos 0))
