@@ -6,6 +6,7 @@ mod Printed
 mod Turning
 mod Stepping
 mod Traces
+mod Accepting
 mod Buffers
 mod Clips
 mod Clipping

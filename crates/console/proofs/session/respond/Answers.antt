@@ -1,24 +1,12 @@
-use Rattle.std.proofs.Common.{◌≡◌, ℕ, ◌-◌, List, map, length, take, drop, Ok, string_bytes, Result, sym, ap, ◌∙◌, rules}
+use Rattle.std.proofs.Common.{◌≡◌, ◌-◌, map, length, take, drop, string_bytes, ◌∙◌, rules}
 use Rattle.std.specs.List.{concat}
-use Rattle.std.proofs.lemmas.List.{take_rest}
 use Rattle.std.proofs.lemmas.Result.{IfOk-weaker}
-use Rattle.table.specs.declared.table.Table.{Table}
-use Rattle.roster.specs.declared.fault.RosterFault.{RosterFault}
-use Rattle.roster.specs.Reading.{roster_of}
-use Rattle.console.specs.Lines.{Line, lines_of, roster_part, call_lines}
-use Rattle.console.specs.Scheme.{window_bits, window_of}
-use Rattle.console.specs.Console.{said, replies, printed_by, printed}
+use Rattle.console.specs.Lines.{lines_of}
+use Rattle.console.specs.Scheme.{window_of}
+use Rattle.console.specs.Console.{said, replies, printed}
+use Rattle.console.proofs.Accepting.{accepted}
 use Rattle.console.proofs.Traces.{leaves_no_trace}
 use Rattle.console.proofs.session.respond.Goals as goal
-
--- the roster is accepted, and the lines after it are answered
-accepted : (input : List ℕ) (size : ℕ) (table : Table) → take size input ≡ roster_part input → lines_of (drop size input) ≡ call_lines input →
-    roster_of window_bits (take size input) ≡ Ok table →
-    concat (replies (window_of table) table.slots (map said (lines_of (take (length input - size) (drop size input))))) ≡ printed input
-accepted input size table roster calls read =
-    ap (λ (text : List ℕ). concat (replies (window_of table) table.slots (map said (lines_of text)))) (take_rest input size)
-    ∙ (ap (λ (lines : List Line). concat (replies (window_of table) table.slots (map said lines))) calls
-    ∙ ap (λ (r : Result Table RosterFault). printed_by r (map said (call_lines input))) (sym read ∙ ap (roster_of window_bits) roster))
 
 pub returns-in-Ok : goal.returns-in-Ok
 returns-in-Ok c =
