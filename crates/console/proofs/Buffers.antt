@@ -1,18 +1,9 @@
--- Texts written one after the other into a buffer, and how long they are. Assumes nothing.
-use Rattle.std.proofs.Common.{◌≡◌, ℕ, zero, suc, ◌+◌, ◌-◌, ◌*◌, ◌/◌, ◌%◌, ◌^◌, ◌<◌, ◌≤◌, min, Bool, true, false, leb, List, [], ◌∷◌, ◌++◌, length, take, drop, set, ℤ, pos, negsuc, nat_abs, sym, refl, ap, ◌∙◌, arith}
+-- Texts written one after the other into a buffer. Assumes nothing.
+use Rattle.std.proofs.Common.{◌≡◌, ℕ, ◌+◌, ◌-◌, ◌≤◌, min, Bool, true, false, leb, List, ◌++◌, length, take, drop, sym, refl, ap, ◌∙◌, arith}
 use native.Mathlib.Nat.{sub-zero}
-use lib.Signed.{lt_z}
-use Rattle.std.proofs.lemmas.List.{append_assoc, length-append, length-map, take_more_set, drop-drop, drop-set-lt, take-append-drop, take_all}
+use Rattle.std.proofs.lemmas.List.{append_assoc, length-append, drop-drop, take-append-drop, take_all}
 use Rattle.std.proofs.lemmas.Bool.{leb-true, leb-false}
-use Rattle.std.proofs.lemmas.Int.{ints}
-use Rattle.std.proofs.lemmas.Int.Digits.{length-digits_of-le}
-use Rattle.numerals.specs.Decimal.{written}
-use Rattle.numerals.proofs.Numbers.{written_grown}
-use Rattle.console.specs.Fields.{written_value}
 use Rattle.console.specs.Writing.{Wrote}
-
-pub wrote_byte : (before : List ℕ) (at b : ℕ) → at < length before → Wrote before at (b ∷ []) (at + 1) (set before at b)
-wrote_byte before at b h = record { ends = omega arith; front = take_more_set before at b h; back = drop-set-lt (at + 1) before at b (omega arith) }
 
 -- what stands after a text stays where more is written from its end on
 pub untouched : (before between : List ℕ) (mid to k : ℕ) → to ≡ mid + k → drop mid between ≡ drop mid before → drop to between ≡ drop to before
@@ -52,35 +43,3 @@ first_of xs k n e = rw sub-zero (go (leb (length xs) n) refl)
     go : (z : Bool) → leb (length xs) n ≡ z → take k xs ≡ take n xs
     go true h = let few = leb-true (length xs) n h in take_all k xs (omega arith) ∙ sym (take_all n xs few)
     go false h = let many = leb-false (length xs) n h in ap (λ (m : ℕ). take m xs) (omega arith)
-
--- ---- numbers
-
--- all but the last digit, and the last
-pub digits_split : (n : ℕ) → 10 ≤ n → written n ≡ written (n / 10) ++ ((48 + n % 10) ∷ [])
-digits_split n h =
-    let e : n ≡ n / 10 * 10 + n % 10 = omega arith in
-    ap written e ∙ written_grown (n / 10) (n % 10) (omega arith) (omega arith)
-
-pub length_split : (n : ℕ) → 10 ≤ n → length (written n) ≡ length (written (n / 10)) + 1
-length_split n h = ap length (digits_split n h) ∙ length-append (written (n / 10)) ((48 + n % 10) ∷ [])
-
-pub length_written : (k n : ℕ) → 0 < k → n < 10 ^ k → length (written n) ≤ k
-unfolding written
-length_written k zero some h = some
-length_written k (suc n) some h = rw length-map (length-digits_of-le 10 k (suc n) (omega arith) h)
-
--- ---- values
-
-pub value_below : (z : ℤ) → lt_z z (pos 0) ≡ true → written_value z ≡ 45 ∷ written (nat_abs z)
-value_below (pos n) h = absurd (grind (arith, ints))
-value_below (negsuc n) h = refl
-
-pub value_not_below : (z : ℤ) → lt_z z (pos 0) ≡ false → written_value z ≡ written (nat_abs z)
-value_not_below (pos n) h = refl
-value_not_below (negsuc n) h = absurd (grind (arith, ints))
-
--- ---- lines
-
--- three fields, each with its comma, a value and byte 10
-pub line_parts : (n r b v : List ℕ) → (n ++ (44 ∷ [])) ++ ((r ++ (44 ∷ [])) ++ ((b ++ (44 ∷ [])) ++ (v ++ (10 ∷ [])))) ≡ n ++ (44 ∷ (r ++ (44 ∷ (b ++ (44 ∷ (v ++ (10 ∷ [])))))))
-line_parts n r b v = simp append_assoc

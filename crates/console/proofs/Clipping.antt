@@ -4,7 +4,8 @@ use Rattle.std.specs.Option.{option_map}
 use Rattle.std.proofs.lemmas.List.{append_assoc, take-append-le}
 use Rattle.noninterference.specs.Monitor.{Call, lay, view, run}
 use Rattle.console.specs.Clipping.{clipped}
-use Rattle.console.specs.Reading.{and_then, cut, number_below, value_in, byte_of, bytes_in, lay_in, view_in, run_fields, run_in}
+use Rattle.numerals.specs.Fields.{cut}
+use Rattle.console.specs.Reading.{and_then, number_below, value_in, byte_of, bytes_in, lay_in, view_in, run_fields, run_in}
 use Rattle.console.proofs.Cutting.{two_and_rest}
 
 -- ---- bytes into a buffer of `most` places, of which xs are filled

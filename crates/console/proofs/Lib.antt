@@ -3,11 +3,10 @@ mod Splitting
 mod Cutting
 mod Reading
 mod Printed
-mod Turning
 mod Stepping
 mod Traces
-mod Accepting
 mod Buffers
 mod Clips
 mod Clipping
-mod Filling
+pub mod Following
+pub mod Filled

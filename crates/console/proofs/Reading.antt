@@ -10,8 +10,9 @@ use Rattle.numerals.proofs.Numbers.{IsDigit, stands, written_digits, value_writt
 use Rattle.console.specs.Fields.{written_value, hexadecimal_digit, hexadecimal}
 use Rattle.noninterference.specs.Monitor.{Call, lay, view, run}
 use Rattle.console.specs.Calls.{spelled, InRange, Says, call, faulty}
-use Rattle.console.specs.Reading.{and_then, cut, number_below, below_zero, value_after_minus, value_in, figure, byte_of, bytes_in, lay_in, view_in, run_fields, run_in, call_in, ReadingStands}
-use Rattle.console.proofs.Cutting.{cut_written, cut_sound}
+use Rattle.numerals.specs.Fields.{cut}
+use Rattle.console.specs.Reading.{and_then, number_below, below_zero, value_after_minus, value_in, figure, byte_of, bytes_in, lay_in, view_in, run_fields, run_in, call_in, ReadingStands}
+use Rattle.numerals.proofs.Cutting.{cut_written, cut_sound}
 
 -- ---- what is found
 

@@ -6,10 +6,12 @@ use Rattle.table.specs.declared.table.Table.{Table}
 use Rattle.roster.specs.declared.fault.RosterFault.{RosterFault}
 use Rattle.roster.specs.Faults.{roster_fault_number, roster_fault_line, roster_fault_byte}
 use Rattle.roster.specs.Reading.{roster_of}
-use Rattle.noninterference.specs.Monitor.{Call, Answer, laid, viewed, ran, refused, Monitor, answers}
+use Rattle.noninterference.specs.Monitor.{Call, Answer, Monitor, answers}
+use Rattle.monitor.specs.Replies.{reply_of}
 use Rattle.console.specs.Lines.{Line, roster_part, call_lines}
 use Rattle.console.specs.Reading.{call_in}
 use Rattle.console.specs.Printing.{printed_line}
+use Rattle.console.specs.Replies.{reply_line}
 use Rattle.console.specs.Scheme.{window_bits, window_of}
 
 -- a line that is not ended says nothing
@@ -22,12 +24,9 @@ calls_of [] = []
 calls_of (None ∷ lines) = calls_of lines
 calls_of (Some call ∷ lines) = call ∷ calls_of lines
 
--- 0 for a call that is carried out, with a value that is viewed or the turns that are taken; a refusal as it is told, with the turns of a cut
+-- the four numbers of an answer
 abbrev pub answer_line : Answer → List ℕ
-answer_line laid = printed_line 0 0 0 (pos 0)
-answer_line (viewed value) = printed_line 0 0 0 value
-answer_line (ran turns) = printed_line 0 0 0 (pos turns)
-answer_line (refused number row byte count) = printed_line number row byte (pos count)
+answer_line answer = reply_line (reply_of answer)
 
 abbrev pub faulty_line : List ℕ
 faulty_line = printed_line 14 0 0 (pos 0)

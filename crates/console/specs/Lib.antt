@@ -12,3 +12,4 @@ pub mod Turns
 pub mod Replies
 pub mod Clipping
 pub mod Writing
+pub mod Onward

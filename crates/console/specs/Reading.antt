@@ -1,6 +1,7 @@
 -- Reading a call line field by field. Assumes nothing.
 use Rattle.std.specs.Prelude.{◌≡◌, ℕ, zero, suc, ◌+◌, ◌-◌, ◌*◌, cond, ◌&&◌, List, [], ◌∷◌, ℤ, pos, negsuc, Some, None, Option, ◌==◌, nat_le, nat_lt}
 use Rattle.std.specs.Option.{option_map}
+use Rattle.numerals.specs.Fields.{cut}
 use Rattle.numerals.specs.Numerals.{is_number, value_of}
 use Rattle.noninterference.specs.Monitor.{Call, lay, view, run}
 use Rattle.console.specs.Calls.{Says, InRange, spelled}
@@ -9,11 +10,6 @@ use Rattle.console.specs.Calls.{Says, InRange, spelled}
 abbrev pub and_then : {A B : Type 0} → Option A → (A → Option B) → Option B
 and_then None f = None
 and_then (Some x) f = f x
-
--- the bytes before the first comma, and those after it
-abbrev pub cut : List ℕ → Option (List ℕ × List ℕ)
-cut [] = None
-cut (b ∷ bs) = cond (b == 44) (Some ([], bs)) (option_map (λ parts. (b ∷ parts.0, parts.1)) (cut bs))
 
 abbrev pub number_below : ℕ → List ℕ → Option ℕ
 number_below limit field = cond (is_number field && nat_lt (value_of field) limit) (Some (value_of field)) None

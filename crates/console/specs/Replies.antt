@@ -1,6 +1,6 @@
 -- The line of a reply. Assumes nothing.
 use Rattle.std.specs.Prelude.{ℕ, List}
-use Rattle.console.specs.declared.printing.Reply.{Reply}
+use Rattle.monitor.specs.declared.reply.Reply.{Reply}
 use Rattle.console.specs.Printing.{printed_line}
 
 abbrev pub reply_line : Reply → List ℕ

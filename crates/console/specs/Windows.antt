@@ -1,18 +1,10 @@
--- The code's requests as calls, and the box that a roster sets up. Assumes nothing.
-use Rattle.std.specs.Prelude.{◌≡◌, Ok, Err, vec_items, Result}
+-- The box that a roster sets up. Assumes nothing.
+use Rattle.std.specs.Prelude.{◌≡◌, Ok, Err, Result}
 use Rattle.table.specs.declared.table.Table.{Table}
 use Rattle.roster.specs.declared.fault.RosterFault.{RosterFault}
-use Rattle.noninterference.specs.Monitor.{Call, lay, view, run}
 use Rattle.monitor.specs.declared.fault.MonitorFault.{MonitorFault}
 use Rattle.monitor.specs.declared.fault.MonitorFault.TheVariants.{Roster}
-use Rattle.console.specs.declared.request.Request.{Request}
-use Rattle.console.specs.declared.request.Request.TheVariants.{Lay, View, Run}
 use Rattle.console.specs.declared.window.Window.{Window}
-
-abbrev pub asked : Request → Call
-asked (Lay n i v) = lay n i v
-asked (View n i) = view n i
-asked (Run n sheet turns) = run n (vec_items sheet) turns
 
 -- given what is read of the roster: a box with the table that it lists, or its fault
 abbrev pub SetUp : Result Table RosterFault → Result Window MonitorFault → Type 0

@@ -1,10 +1,9 @@
 -- Writing into a buffer: how much room an input asks for, and what a buffer holds then. Assumes nothing.
-use Rattle.std.specs.Prelude.{◌≡◌, ℕ, ◌+◌, ◌*◌, cond, List, [], ◌∷◌, ◌++◌, length, take, drop, Some, None, Option, ◌==◌, nat_le}
+use Rattle.std.specs.Prelude.{◌≡◌, ℕ, ◌+◌, ◌*◌, cond, List, ◌++◌, length, take, drop, count_by, Some, None, Option, ◌==◌, nat_le}
 
 -- how many bytes 10 there are
 abbrev pub ends_in : List ℕ → ℕ
-ends_in [] = 0
-ends_in (b ∷ bs) = cond (b == 10) 1 0 + ends_in bs
+ends_in text = count_by (λ b. b == 10) text
 
 -- The room for what is printed for an input: 30 bytes for each line that is ended, and 30 more. No printed line is longer.
 abbrev pub room_for : List ℕ → ℕ

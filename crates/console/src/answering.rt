@@ -1,5 +1,5 @@
 // The box at the window, set up and asked.
-ghost use Rattle.std.specs.Prelude.{◌≡◌, true, false, IfOk, string_bytes, MatchResult};
+ghost use Rattle.std.specs.Prelude.{◌≡◌, true, false, MatchResult};
 ghost use Rattle.table.specs.Slots.{blank_table};
 ghost use Rattle.roster.specs.Reading.{roster_of};
 ghost use Rattle.monitor.specs.Boxes.{Stepped};
@@ -8,15 +8,13 @@ ghost use Rattle.console.specs.Reading.{call_in};
 ghost use Rattle.console.specs.Replies.{reply_line};
 ghost use Rattle.console.specs.Scheme.{window_flows, window_joins, window_bits};
 ghost use Rattle.console.specs.Turns.{Turned};
-ghost use Rattle.console.specs.Windows.{asked, SetUp};
+ghost use Rattle.console.specs.Windows.{SetUp};
 
-use crate::printing::Reply;
+use crate::printing::FAULTY;
 use crate::reader::CallReader;
-use crate::request::{Request, read_request};
 use crate::window::Window;
 use labels::{Ladder, Pair, SchemeFault, Topics};
-use monitor::{Answer, Call, Monitor, MonitorFault};
-use std::alloc::{AllocError, Global};
+use monitor::{Answer, Call, Monitor, MonitorFault, Reply};
 
 // Three topics, low, and a ladder of four, high.
 fn scheme() -> Result<Pair<Topics, Ladder>, SchemeFault>
@@ -45,30 +43,13 @@ impl Window {
         }
     }
 
-    // What is printed for a call line.
-    pub(crate) fn reply(&mut self, heap: Global, line: &[u8]) -> Result<String, AllocError>
-        ensures { IfOk result (λ text. Turned self.old.monitor.table (call_in line.now) (string_bytes text) self.new.monitor.table) }
-    {
-        match read_request(heap, line)? {
-            Some(request) => Reply::to(self.answer(&request)).line(heap),
-            None => Reply::faulty().line(heap),
-        }
-    }
-
-    // Makes the call that is asked for.
-    fn answer(&mut self, request: &Request) -> Answer
-        ensures { Stepped window_flows window_joins window_bits self.old.monitor.table (asked request.now) (answer_of result) self.new.monitor.table }
-    {
-        self.monitor.answer(request.call())
-    }
-
     // The reply to a call line.
-    pub(crate) fn reply_by(&mut self, reader: &mut CallReader, line: &[u8]) -> Reply
+    pub(crate) fn reply(&mut self, reader: &mut CallReader, line: &[u8]) -> Reply
         ensures { Turned self.old.monitor.table (call_in line.now) (reply_line result) self.new.monitor.table }
     {
         match reader.read(line) {
-            Some(call) => Reply::to(self.make(call)),
-            None => Reply::faulty(),
+            Some(call) => self.make(call).into(),
+            None => FAULTY,
         }
     }
 

@@ -1,15 +1,14 @@
 // The whole into a buffer of the caller's: from the bytes that are read to the bytes that are printed.
-ghost use Rattle.std.specs.Prelude.{◌≡◌, ℕ, ◌≤◌, List, map, length, IfSome, Option};
-ghost use Rattle.std.specs.List.{concat};
-ghost use Rattle.console.specs.Lines.{read_of, lines_of};
-ghost use Rattle.console.specs.Scheme.{window_of};
-ghost use Rattle.console.specs.Console.{said, replies, printed};
+ghost use Rattle.std.specs.Prelude.{◌≡◌, ℕ, ◌+◌, ◌≤◌, List, length, IfSome, Option};
+ghost use Rattle.console.specs.Lines.{read_of};
+ghost use Rattle.console.specs.Console.{printed};
+ghost use Rattle.console.specs.Onward.{to_print};
 ghost use Rattle.console.specs.Struck.{LeavesNoTrace};
 ghost use Rattle.console.specs.Writing.{ends_in, room_for, placed, Wrote};
 
 use crate::lines::roster_size;
-use crate::printing::Reply;
-use crate::reader::CallReader;
+use crate::printing::line_of;
+use crate::replies::Replies;
 use crate::window::Window;
 
 // The most bytes that are read of an input.
@@ -42,13 +41,7 @@ pub fn room_for(input: &[u8]) -> usize
 fn ended_lines(text: &[u8]) -> usize
     ensures { (result ≡ ends_in text.now) × (result ≤ length text.now) }
 {
-    let mut count = 0;
-    for byte in text {
-        if *byte == b'\n' {
-            count += 1;
-        }
-    }
-    count
+    text.iter().filter(|byte| **byte == b'\n').count()
 }
 
 // Writes what is printed for an input.
@@ -59,27 +52,29 @@ fn answer_input(input: &[u8], out: &mut [u8]) -> usize
     let size = roster_size(input);
     match Window::set_up(&input[..size]) {
         Ok(window) => write_answers(window, &input[size..], out),
-        Err(fault) => Reply::refused(fault).write(out, 0),
+        Err(fault) => write(out, 0, line_of(fault.into()).as_str()),
     }
 }
 
-// Writes what is printed for call lines, of which the last may not be ended.
-fn write_answers(mut window: Window, text: &[u8], out: &mut [u8]) -> usize
-    requires { room_for text.now ≤ length out.old }
-    ensures { Wrote out.old 0 (concat (replies (window_of window.monitor.table) window.monitor.table.slots (map said (lines_of text.now)))) result out.new }
+// Writes what is printed for call lines.
+fn write_answers(window: Window, lines: &[u8], out: &mut [u8]) -> usize
+    requires { room_for lines.now ≤ length out.old }
+    ensures { Wrote out.old 0 (to_print window.monitor.table lines.now) result out.new }
 {
-    let mut reader = CallReader::new();
     let mut end = 0;
-    let mut start = 0;
-    for (i, byte) in text.iter().enumerate() {
-        if *byte == b'\n' {
-            let reply = window.reply_by(&mut reader, &text[start..i]);
-            end = reply.write(out, end);
-            start = i + 1;
-        }
+    for reply in Replies::new(window, lines) {
+        end = write(out, end, line_of(reply).as_str());
     }
-    if start < text.len() {
-        end = Reply::faulty().write(out, end);
-    }
+    end
+}
+
+// Writes a text into a buffer, and answers where it ends. The buffer is the caller's, who may be a C program: how far it is filled is
+// told by a number.
+fn write(out: &mut [u8], at: usize, text: &str) -> usize
+    requires { at + length text.now ≤ length out.old }
+    ensures { Wrote out.old at text.now result out.new }
+{
+    let end = at + text.len();
+    out[at..end].copy_from_slice(text.as_bytes());
     end
 }

@@ -3,17 +3,16 @@
 
 mod answering;
 mod buffered;
+mod digits;
 mod fields;
 mod lines;
 mod printing;
 mod reader;
-mod request;
+mod replies;
 mod session;
 mod window;
-mod writing;
 
 pub use buffered::{respond_into, room_for};
 pub use lines::lines_stand;
-pub use reader::CallReader;
-pub use request::reading_stands;
+pub use reader::{CallReader, reading_stands};
 pub use session::respond;

@@ -1,30 +1,29 @@
 // What a call line asks for.
-ghost use Rattle.std.specs.Prelude.{◌≡◌, length, replicate};
+ghost use Rattle.std.specs.Prelude.{◌≡◌, [], Some, None, MatchOption};
 ghost use Rattle.std.specs.Option.{option_map};
 ghost use Rattle.monitor.specs.Calls.{call_of};
 ghost use Rattle.console.specs.Clipping.{clipped};
-ghost use Rattle.console.specs.Reading.{lay_in, view_in, run_in, call_in};
+ghost use Rattle.console.specs.Reading.{lay_in, view_in, run_fields, run_in, call_in, ReadingStands};
 
-use crate::fields::{byte_field, cut_at_comma, sheet_into, value_field};
-use crate::request::run_fields;
+use crate::digits::{SHEET_AND_ONE, decode_sheet};
+use crate::fields::{byte_field, turns_field, value_field};
+use arrayvec::ArrayVec;
 use monitor::Call;
+use numerals::cut_at;
 
-// The longest sheet, and one byte more: a sheet that is too long is still too long when the rest of it is left out.
-const SHEET_AND_ONE: usize = 2049;
-
-/// Reads call lines, one after the other. It has a buffer for the bytes of a sheet; what an earlier line left there is in no answer.
+/// Reads call lines, one after the other. It has room for the bytes of a sheet; what an earlier line left there is in no answer.
 #[derive(Drop)]
 pub struct CallReader {
-    sheet: [u8; SHEET_AND_ONE],
+    sheet: ArrayVec<u8, SHEET_AND_ONE>,
 }
 
 impl CallReader {
     /// A reader that has read nothing.
     pub fn new() -> CallReader
-        ensures { result.sheet ≡ replicate 2049 0 }
+        ensures { result.sheet.items ≡ [] }
     {
         CallReader {
-            sheet: [0; SHEET_AND_ONE],
+            sheet: ArrayVec::new(),
         }
     }
 
@@ -32,29 +31,23 @@ impl CallReader {
     pub fn read(&mut self, line: &[u8]) -> Option<Call<'_>>
         ensures { option_map call_of result ≡ option_map (clipped 2049) (call_in line.now) }
     {
-        read_call(line, &mut self.sheet)
-    }
-}
-
-// The call that a line spells, if it spells one. The bytes of its sheet go into a buffer, as many as it has places.
-fn read_call<'a>(line: &[u8], sheet: &'a mut [u8]) -> Option<Call<'a>>
-    ensures { option_map call_of result ≡ option_map (clipped (length sheet.old)) (call_in line.now) }
-{
-    if let [b'R', b',', text @ ..] = line {
-        return read_run(text, sheet);
-    }
-    match line {
-        [b'L', b',', text @ ..] => read_lay(text),
-        [b'V', b',', text @ ..] => read_view(text),
-        _ => None,
+        // On its own, since only this call borrows the reader's sheet.
+        if let [b'R', b',', text @ ..] = line {
+            return read_run(text, &mut self.sheet);
+        }
+        match line {
+            [b'L', b',', text @ ..] => read_lay(text),
+            [b'V', b',', text @ ..] => read_view(text),
+            _ => None,
+        }
     }
 }
 
 fn read_lay<'a>(text: &[u8]) -> Option<Call<'a>>
     ensures { option_map call_of result ≡ lay_in text.now }
 {
-    let (person, rest) = cut_at_comma(text)?;
-    let (slot, value) = cut_at_comma(rest)?;
+    let (person, rest) = cut_at(text, b',')?;
+    let (slot, value) = cut_at(rest, b',')?;
     Some(Call::Lay {
         person: byte_field(person)?,
         slot: byte_field(slot)?,
@@ -65,21 +58,35 @@ fn read_lay<'a>(text: &[u8]) -> Option<Call<'a>>
 fn read_view<'a>(text: &[u8]) -> Option<Call<'a>>
     ensures { option_map call_of result ≡ view_in text.now }
 {
-    let (person, slot) = cut_at_comma(text)?;
+    let (person, slot) = cut_at(text, b',')?;
     Some(Call::View {
         person: byte_field(person)?,
         slot: byte_field(slot)?,
     })
 }
 
-fn read_run<'a>(text: &[u8], sheet: &'a mut [u8]) -> Option<Call<'a>>
-    ensures { option_map call_of result ≡ option_map (clipped (length sheet.old)) (run_in text.now) }
+fn read_run<'a>(text: &[u8], sheet: &'a mut ArrayVec<u8, SHEET_AND_ONE>) -> Option<Call<'a>>
+    ensures { option_map call_of result ≡ option_map (clipped 2049) (run_in text.now) }
 {
     let (person, turns, digits) = run_fields(text)?;
-    let count = sheet_into(digits, sheet)?;
+    decode_sheet(digits, sheet)?;
     Some(Call::Run {
         person,
-        sheet: &sheet[0..count],
+        sheet: sheet.as_slice(),
         turns,
     })
 }
+
+// The person and the turns of a run, and its sheet as it is written.
+fn run_fields(text: &[u8]) -> Option<(u8, u16, &[u8])>
+    ensures { MatchOption result (run_fields text.now ≡ None) (λ f. run_fields text.now ≡ Some (f.0, f.1, f.2.now)) }
+{
+    let (person, rest) = cut_at(text, b',')?;
+    let (turns, digits) = cut_at(rest, b',')?;
+    Some((byte_field(person)?, turns_field(turns)?, digits))
+}
+
+/// The theorem that ties what is read of a line to how calls are spelled.
+pub fn reading_stands()
+    ensures { ReadingStands }
+{}

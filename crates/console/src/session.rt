@@ -1,13 +1,12 @@
 // The whole: from the bytes that are read to the bytes that are printed.
-ghost use Rattle.std.specs.Prelude.{◌≡◌, map, IfOk, string_bytes};
-ghost use Rattle.std.specs.List.{concat};
-ghost use Rattle.console.specs.Lines.{lines_of};
-ghost use Rattle.console.specs.Scheme.{window_of};
-ghost use Rattle.console.specs.Console.{said, replies, printed};
+ghost use Rattle.std.specs.Prelude.{◌≡◌, IfOk, string_bytes};
+ghost use Rattle.console.specs.Console.{printed};
+ghost use Rattle.console.specs.Onward.{to_print};
 ghost use Rattle.console.specs.Struck.{LeavesNoTrace};
 
 use crate::lines::roster_size;
-use crate::printing::Reply;
+use crate::printing::line_of;
+use crate::replies::Replies;
 use crate::window::Window;
 use std::alloc::{AllocError, Global};
 
@@ -23,26 +22,18 @@ pub fn respond(heap: Global, input: &[u8]) -> Result<String, AllocError>
     let size = roster_size(input);
     match Window::set_up(&input[..size]) {
         Ok(window) => answer_lines(heap, window, &input[size..]),
-        Err(fault) => Reply::refused(fault).line(heap),
+        Err(fault) => String::from_str(heap, line_of(fault.into()).as_str()),
     }
 }
 
-// What is printed for call lines, of which the last may not be ended.
-fn answer_lines(heap: Global, mut window: Window, text: &[u8]) -> Result<String, AllocError>
-    ensures { IfOk result (λ printed. string_bytes printed ≡ concat (replies (window_of window.monitor.table) window.monitor.table.slots (map said (lines_of text.now)))) }
+// What is printed for call lines. What is the same into a buffer lies in `Replies` and `line_of`; a trait for where a line goes
+// would be longer than this loop and that of `write_answers`, since only one of them can fail.
+fn answer_lines(heap: Global, window: Window, lines: &[u8]) -> Result<String, AllocError>
+    ensures { IfOk result (λ printed. string_bytes printed ≡ to_print window.monitor.table lines.now) }
 {
     let mut printed = String::new(heap);
-    let mut start = 0;
-    for (i, byte) in text.iter().enumerate() {
-        if *byte == b'\n' {
-            let reply = window.reply(heap, &text[start..i])?;
-            printed.push_str(reply.as_str())?;
-            start = i + 1;
-        }
-    }
-    if start < text.len() {
-        let reply = Reply::faulty().line(heap)?;
-        printed.push_str(reply.as_str())?;
+    for reply in Replies::new(window, lines) {
+        printed.push_str(line_of(reply).as_str())?;
     }
     Ok(printed)
 }

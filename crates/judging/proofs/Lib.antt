@@ -3,7 +3,6 @@ pub mod Exactly
 pub mod Orders
 mod OrderAlone
 mod Sequence
-mod Controls
 mod Reading
 mod Walking
 mod Judgements

@@ -84,21 +84,20 @@ fault_first (Some why ∷ vs) i fault e = record {
 
 pub first_faults : (vs : List (Option RowReason)) (i j n : ℕ) (why : RowReason) → n ≡ i + j → get_or vs j None ≡ Some why →
     ((k : ℕ) → k < j → get_or vs k None ≡ None) → first_fault i vs ≡ Some (record { row = n; reason = why })
-first_faults [] i j n why e here before = let z : ◌≡◌ {A = ℕ} 0 1 = cc in absurd (omega arith)
-first_faults (None ∷ vs) i zero n why e here before = let z : ◌≡◌ {A = ℕ} 0 1 = cc in absurd (omega arith)
+first_faults [] i j n why e here before = cc
+first_faults (None ∷ vs) i zero n why e here before = cc
 first_faults (None ∷ vs) i (suc j) n why e here before =
     first_faults vs (i + 1) j n why (omega arith) here (λ k h. before (suc k) (omega arith))
 first_faults (Some other ∷ vs) i zero n why e here before = let same : i ≡ n = omega arith in cc
 first_faults (Some other ∷ vs) i (suc j) n why e here before =
     let none : Some other ≡ None = before 0 (omega arith) in
-    let z : ◌≡◌ {A = ℕ} 0 1 = cc in
-    absurd (omega arith)
+    cc
 
 -- one verdict
 
 pub passes_true : (b : Bool) (why : RowReason) → unless_passed b why ≡ None → b ≡ true
 passes_true true why e = refl
-passes_true false why e = let z : ◌≡◌ {A = ℕ} 0 1 = cc in absurd (omega arith)
+passes_true false why e = cc
 
 pub true_passes : (b : Bool) (why : RowReason) → b ≡ true → unless_passed b why ≡ None
 true_passes b why e = rw e

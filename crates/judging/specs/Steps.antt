@@ -1,10 +1,11 @@
 -- The judge as its code goes about it: what a row depends on is joined into one label, and the control labels outside the open blocks are
 -- kept on a stack. Private functions are held to these words, and the public ones to those of `Judging`. Assumes nothing.
-use Rattle.std.specs.Prelude.{ℕ, ◌+◌, ◌-◌, ◌<◌, Bool, false, List, [], ◌∷◌, reverse, take, Some, None, Option}
+use Rattle.std.specs.Prelude.{ℕ, ◌+◌, ◌-◌, ◌<◌, Bool, false, List, [], ◌∷◌, length, reverse, Some, None, Option}
 use Rattle.labels.specs.Laws.{Code}
 use Rattle.rows.specs.declared.row.Row.{Row}
 use Rattle.rows.specs.declared.row.Row.TheVariants.{Idle, PutConstant, SlotWithConstant, TwoSlots, If, Else, While, End}
 use Rattle.judging.specs.Judging.{inside}
+use Rattle.judging.specs.declared.control.Control.{Control}
 
 -- the join of two labels, where there are two
 abbrev pub joined : (ℕ → ℕ → ℕ) → Option ℕ → Option ℕ → Option ℕ
@@ -24,8 +25,12 @@ CodedLabel None = Unit {0}
 CodedLabel (Some a) = Code a
 
 -- the control labels, the present one first
-abbrev pub controls : ℕ → List ℕ → ℕ → List ℕ
-controls label outside depth = label ∷ reverse (take depth outside)
+abbrev pub controls : Control → List ℕ
+controls control = control.label ∷ reverse control.outside.items
+
+-- how many blocks are open
+abbrev pub depth : Control → ℕ
+depth control = length control.outside.items
 
 -- a block is opened only where less than 16 are, and closed only where one is
 abbrev pub Room : ℕ → Row → Type 0

@@ -5,7 +5,7 @@ ghost use Rattle.labels.specs.Caps.{cap_lawful};
 use crate::scheme::Scheme;
 
 /// A scheme capped by a code: a code that is not at or below the cap counts as the cap.
-#[derive(Drop)]
+#[derive(PartialEq, Eq, Debug, Drop)]
 pub struct Cap<S> {
     scheme: S,
     code: u64,

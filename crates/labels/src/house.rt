@@ -1,17 +1,15 @@
 ghost use Rattle.std.specs.Prelude.{◌≡◌, ◌≤◌};
 ghost use Rattle.labels.specs.Bits.{bits_where};
 ghost use Rattle.labels.specs.Faults.{Built};
-ghost use Rattle.labels.specs.Schemes.{bars_another, house_bits, house_flows, house_joins};
-ghost use Rattle.labels.specs.Inclusion.{counted_lawful};
+ghost use Rattle.labels.specs.Schemes.{bars_another, house_bits};
 ghost use Rattle.labels.specs.Masks.{square_fits, square_some};
 
-use crate::counted;
-use crate::fault::SchemeFault;
-use crate::scheme::Scheme;
+use crate::counted::Counted;
+use crate::fault::{SchemeFault, sized};
 
 /// Who bars whom in a house of principals: bit owner × principals + reader of a code says that the owner bars the reader.
 /// A bar of oneself does not count, nor does a bit from principals × principals up.
-#[derive(Clone, Copy)]
+#[derive(Clone, Copy, Debug, PartialEq, Eq)]
 pub struct House {
     principals: u64,
     mask: u64,
@@ -46,34 +44,24 @@ impl House {
     pub fn new(principals: u64) -> Result<House, SchemeFault>
         ensures { Built 8 principals (λ (h : House). h.principals) result }
     {
-        if principals < 1 || principals > 8 {
-            return Err(SchemeFault::Size);
-        }
+        let principals = sized(principals, 8)?;
         let mask = bars(principals);
         Ok(House { principals, mask })
     }
 }
 
-impl Scheme for House {
-    ghost flows = { λ s. house_flows s.principals };
+impl Counted for House {
+    ghost places = { λ s. house_bits s.principals };
 
-    ghost joins = { λ s. house_joins s.principals };
+    ghost counts = { λ s. bars_another s.principals };
 
-    ghost bits = { λ s. house_bits s.principals };
+    ghost range = { λ s. (square_some s.principals s.range.0, square_fits s.principals s.range.1) };
 
-    ghost lawful = { λ s.
-        let k = s.principals in
-        counted_lawful (house_bits k) (bars_another k) (square_some k s.range.0) (square_fits k s.range.1) };
-
-    fn flows_to(&self, a: u64, b: u64) -> bool {
-        counted::includes(self.mask, a, b)
-    }
-
-    fn join(&self, a: u64, b: u64) -> u64 {
-        counted::unite(self.mask, a, b)
-    }
-
-    fn width(&self) -> u32 {
+    fn places(&self) -> u32 {
         (self.principals * self.principals) as u32
+    }
+
+    fn mask(&self) -> u64 {
+        self.mask
     }
 }

@@ -3,11 +3,11 @@ ghost use Rattle.labels.specs.Faults.{Built};
 ghost use Rattle.labels.specs.Schemes.{level, ladder_flows, ladder_joins, ladder_bits};
 ghost use Rattle.labels.specs.Ladders.{ladder_lawful};
 
-use crate::fault::SchemeFault;
+use crate::fault::{SchemeFault, sized};
 use crate::scheme::Scheme;
 
 /// Levels 0 to `levels` − 1, one above the other. A code counts as a level: as the top one where it is above it.
-#[derive(Clone, Copy)]
+#[derive(Clone, Copy, Debug, PartialEq, Eq)]
 pub struct Ladder {
     levels: u64,
     ghost range: { (1 ≤ levels) × (levels ≤ 256) },
@@ -18,9 +18,7 @@ impl Ladder {
     pub fn new(levels: u64) -> Result<Ladder, SchemeFault>
         ensures { Built 256 levels (λ (l : Ladder). l.levels) result }
     {
-        if levels < 1 || levels > 256 {
-            return Err(SchemeFault::Size);
-        }
+        let levels = sized(levels, 256)?;
         Ok(Ladder { levels })
     }
 

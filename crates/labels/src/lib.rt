@@ -12,6 +12,7 @@ mod topics;
 mod words;
 
 pub use cap::Cap;
+pub use counted::Counted;
 pub use fault::SchemeFault;
 pub use house::House;
 pub use ladder::Ladder;
@@ -19,5 +20,6 @@ pub use pair::Pair;
 pub use scheme::Scheme;
 pub use topics::Topics;
 pub use words::{
-    cap_in_words, house_is_bitwise, ladder_in_words, pair_in_words, topics_are_bitwise,
+    cap_in_words, house_is_bitwise, house_is_defined, ladder_in_words, pair_in_words,
+    topics_are_bitwise, topics_are_defined,
 };

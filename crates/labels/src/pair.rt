@@ -6,7 +6,7 @@ use crate::scheme::Scheme;
 
 /// A low and a high scheme side by side: the lowest bits of a code, as many as the low scheme is wide, are the low part, and
 /// the others the high part. Where the widths add up to more than 64, all codes mean the same.
-#[derive(Drop)]
+#[derive(PartialEq, Eq, Debug, Drop)]
 pub struct Pair<A, B> {
     low: A,
     high: B,

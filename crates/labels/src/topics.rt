@@ -1,15 +1,13 @@
 ghost use Rattle.std.specs.Prelude.{◌≡◌, ◌≤◌};
 ghost use Rattle.labels.specs.Bits.{bits_where};
 ghost use Rattle.labels.specs.Faults.{Built};
-ghost use Rattle.labels.specs.Schemes.{any_topic, topics_flows, topics_joins};
-ghost use Rattle.labels.specs.Inclusion.{counted_lawful};
+ghost use Rattle.labels.specs.Schemes.{any_topic};
 
-use crate::counted;
-use crate::fault::SchemeFault;
-use crate::scheme::Scheme;
+use crate::counted::Counted;
+use crate::fault::{SchemeFault, sized};
 
 /// Sets of topics: bit i of a code says that topic i is in it. The bits from `topics` up do not count.
-#[derive(Clone, Copy)]
+#[derive(Clone, Copy, Debug, PartialEq, Eq)]
 pub struct Topics {
     topics: u64,
     mask: u64,
@@ -30,32 +28,24 @@ impl Topics {
     pub fn new(topics: u64) -> Result<Topics, SchemeFault>
         ensures { Built 64 topics (λ (t : Topics). t.topics) result }
     {
-        if topics < 1 || topics > 64 {
-            return Err(SchemeFault::Size);
-        }
+        let topics = sized(topics, 64)?;
         let mask = lowest(topics);
         Ok(Topics { topics, mask })
     }
 }
 
-impl Scheme for Topics {
-    ghost flows = { λ s. topics_flows s.topics };
+impl Counted for Topics {
+    ghost places = { λ s. s.topics };
 
-    ghost joins = { λ s. topics_joins s.topics };
+    ghost counts = { λ _. any_topic };
 
-    ghost bits = { λ s. s.topics };
+    ghost range = { λ s. s.range };
 
-    ghost lawful = { λ s. counted_lawful s.topics any_topic s.range.0 s.range.1 };
-
-    fn flows_to(&self, a: u64, b: u64) -> bool {
-        counted::includes(self.mask, a, b)
-    }
-
-    fn join(&self, a: u64, b: u64) -> u64 {
-        counted::unite(self.mask, a, b)
-    }
-
-    fn width(&self) -> u32 {
+    fn places(&self) -> u32 {
         self.topics as u32
+    }
+
+    fn mask(&self) -> u64 {
+        self.mask
     }
 }

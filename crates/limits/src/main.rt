@@ -8,51 +8,19 @@ mod sheet_limits;
 
 use anyhow::anyhow;
 use labels::{Ladder, Pair, SchemeFault, Topics};
-use monitor::{Monitor, MonitorFault};
+use monitor::{Answer, Monitor, Reply};
 use std::io;
 
-/// Three topics (low) and a ladder of four levels (high).
+/// Three topics (low) and a ladder of four levels (high), as at the window, whose crate this program does not need.
 pub(crate) type Scheme = Pair<Topics, Ladder>;
 
 pub(crate) fn blank() -> Result<Monitor<Scheme>, SchemeFault> {
     Ok(Monitor::blank(Pair::new(Topics::new(3)?, Ladder::new(4)?)))
 }
 
-pub(crate) fn show(rt: &HostRuntime, what: &str, res: Result<(), MonitorFault>) -> io::Result<()> {
-    match res {
-        Ok(()) => println!(rt; "{what}: 0,0,0,0"),
-        Err(fault) => show_fault(rt, what, fault),
-    }
-}
-
-pub(crate) fn show_view(
-    rt: &HostRuntime,
-    what: &str,
-    res: Result<i32, MonitorFault>,
-) -> io::Result<()> {
-    match res {
-        Ok(value) => println!(rt; "{what}: 0,0,0,{value}"),
-        Err(fault) => show_fault(rt, what, fault),
-    }
-}
-
-pub(crate) fn show_run(
-    rt: &HostRuntime,
-    what: &str,
-    res: Result<u16, MonitorFault>,
-) -> io::Result<()> {
-    match res {
-        Ok(turns) => println!(rt; "{what}: 0,0,0,{turns}"),
-        Err(fault) => show_fault(rt, what, fault),
-    }
-}
-
-fn show_fault(rt: &HostRuntime, what: &str, fault: MonitorFault) -> io::Result<()> {
-    let number = fault.number();
-    let row = fault.row();
-    let byte = fault.byte();
-    let count = fault.count();
-    println!(rt; "{what}: {number},{row},{byte},{count}")
+pub(crate) fn show<A: Into<Answer>>(rt: &HostRuntime, what: &str, outcome: A) -> io::Result<()> {
+    let reply = Reply::from(outcome.into());
+    println!(rt; "{what}: {reply}")
 }
 
 fn sizes(rt: &HostRuntime) -> io::Result<()> {

@@ -25,11 +25,9 @@ use Rattle.noninterference.specs.Strike.{kept, Sound, Untraced}
 use Rattle.noninterference.proofs.Strike.{struck}
 use Rattle.monitor.specs.declared.call.Call as call
 use Rattle.monitor.specs.declared.call.Answer as answer
-use Rattle.monitor.specs.declared.fault.MonitorFault.{MonitorFault}
 use Rattle.monitor.specs.Boxes.{unless_faulty, checked_rows, box_of}
 use Rattle.monitor.specs.Calls.{answer_of}
-use Rattle.monitor.specs.Play.{made_calls, Answered, Played, Unmarked, BoxesAreUntraced}
-use Rattle.monitor.specs.Rosters.{with_roster}
+use Rattle.monitor.specs.Play.{made_calls, Answered, Unmarked, BoxesAreUntraced}
 
 -- ---- the labels that a roster gives are codes
 
@@ -102,23 +100,5 @@ module _ (flows : ℕ → ℕ → Bool) (joins : ℕ → ℕ → ℕ) where
           ended = λ ℓ code i l h f. ap (λ (s : List Slot). value_at s i) a.slots_are ∙ laws.ended ℓ code all i l h f;
         }
 
-    -- with an accepted roster the whole is as its parts
-    pub played : {A : Type 0} (calls : List call.Call) (places written : List answer.Answer) (table_of : A → Table) (box : A) →
-        Answered (box_of flows joins bits listed) listed calls places written (table_of box) →
-        Played (box_of flows joins bits) (roster_of bits text) calls places written table_of (Ok box)
-    played calls places written table_of box a =
-        subst (λ (r : Result Table RosterFault). Played (box_of flows joins bits) r calls places written table_of (Ok box)) (sym read)
-        a
-
 pub boxes_are_untraced : BoxesAreUntraced
 boxes_are_untraced = untraced
-
--- a box without a roster that takes one has its table, and has a roster then
-pub taken : (had : Bool) (table after : Table) (has : Bool) (read : Result Table RosterFault) → had ≡ false →
-    ◌≡◌ {A = Result (Unit {0}) MonitorFault × Table × Bool} (Ok tt, after, has) (with_roster had table read) → (read ≡ Ok after) × (has ≡ true)
-taken true table after has read h e = let z : ◌≡◌ {A = ℕ} 0 1 = cc in absurd (omega arith)
-taken false table after has (Ok listed) h e = (ap Ok (sym (ap (λ (x : Result (Unit {0}) MonitorFault × Table × Bool). x.1) e)), ap (λ (x : Result (Unit {0}) MonitorFault × Table × Bool). x.2) e)
-taken false table after has (Err f) h e =
-    let bad = ap (λ (x : Result (Unit {0}) MonitorFault × Table × Bool). x.0) e in
-    let z : ◌≡◌ {A = ℕ} 0 1 = cc in
-    absurd (omega arith)

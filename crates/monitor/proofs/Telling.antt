@@ -64,7 +64,7 @@ passed_on (Ok taken) = Ok taken
 passed_on (Err f) = Err (fault.Cut f.turns)
 
 module _ (M : Monitor) (before : Table) (n : ℕ) (bytes : List ℕ) (turns p : ℕ) (who : M.people n ≡ Some p) where
-  pub turned_away : (f : MonitorFault) → TurnedAway M.flows M.joins M.labels p bytes f → RunTold M before n bytes turns (Err f) before
+  pub turned_away : (f : MonitorFault) → TurnedAway M p bytes f → RunTold M before n bytes turns (Err f) before
   turned_away _ (TurnedAway.not_read refused) = RunTold.not_read who refused
   turned_away _ (TurnedAway.not_passed b written against) = RunTold.not_passed b who written against
 

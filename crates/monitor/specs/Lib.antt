@@ -7,3 +7,5 @@ pub mod Told
 pub mod Rosters
 pub mod Calls
 pub mod Play
+pub mod Steps
+pub mod Replies

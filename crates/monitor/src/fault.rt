@@ -8,7 +8,7 @@ use rows::RowFault;
 use sheets::SheetFault;
 
 /// Why a call is refused.
-#[derive(Clone, Copy)]
+#[derive(Clone, Copy, Debug, PartialEq, Eq)]
 pub enum MonitorFault {
     /// The box has a roster already.
     HasRoster,
@@ -48,7 +48,7 @@ impl From<RowFault> for MonitorFault {
     ghost from_gives = { λ fault r. r ≡ Sheet (Row fault) };
 
     fn from(fault: RowFault) -> MonitorFault {
-        <MonitorFault as From<SheetFault>>::from(<SheetFault as From<RowFault>>::from(fault))
+        MonitorFault::Sheet(fault.into())
     }
 }
 
@@ -60,6 +60,7 @@ impl From<running::Cut> for MonitorFault {
     }
 }
 
+// The text protocol and the C interface tell a refusal by numbers, so these stand beside the variants.
 impl MonitorFault {
     /// The number by which the refusal is told.
     pub fn number(self) -> u8
@@ -83,7 +84,7 @@ impl MonitorFault {
     {
         match self {
             MonitorFault::Roster(fault) => fault.line(),
-            MonitorFault::Sheet(fault) => fault.row() as u16,
+            MonitorFault::Sheet(fault) => u16::from(fault.row()),
             _ => 0,
         }
     }
@@ -94,7 +95,7 @@ impl MonitorFault {
     {
         match self {
             MonitorFault::Roster(fault) => fault.byte(),
-            MonitorFault::Sheet(fault) => fault.byte() as u16,
+            MonitorFault::Sheet(fault) => u16::from(fault.byte()),
             _ => 0,
         }
     }

@@ -5,10 +5,12 @@ mod access;
 mod call;
 mod fault;
 mod monitor;
+mod reply;
 mod session;
 mod sheet;
 
 pub use call::{Answer, Call};
 pub use fault::MonitorFault;
 pub use monitor::Monitor;
+pub use reply::Reply;
 pub use session::{boxes_are_untraced, play};

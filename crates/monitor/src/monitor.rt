@@ -13,6 +13,7 @@ use table::Table;
 pub struct Monitor<S> {
     pub(crate) scheme: S,
     pub(crate) table: Table,
+    // No Option of the table: with no roster yet, calls answer by the blank table and need no path of their own.
     pub(crate) rostered: bool,
 }
 

@@ -1,14 +1,16 @@
 -- Numbers in decimal digits: how they grow by a digit, that they are digits, and that they have their value back. Assumes nothing.
-use Rattle.std.proofs.Common.{◌≡◌, ℕ, zero, suc, ◌+◌, ◌-◌, ◌*◌, ◌/◌, ◌%◌, ◌^◌, ◌<◌, ◌≤◌, Bool, true, false, cond, eqb, ltb, leb, List, [], ◌∷◌, ◌++◌, map, length, get_or, take, Some, None, decimal, sym, refl, ap, ◌∙◌, subst, arith}
+use Rattle.std.proofs.Common.{◌≡◌, ℕ, zero, suc, ◌+◌, ◌-◌, ◌*◌, ◌/◌, ◌%◌, ◌^◌, ◌<◌, ◌≤◌, Bool, true, false, cond, eqb, ltb, leb, List, [], ◌∷◌, ◌++◌, map, length, get_or, take, Some, None, Err, decimal, sym, refl, ap, ◌∙◌, subst, ⊎_elim, arith}
+use Rattle.std.specs.Option.{ok_or}
 use Rattle.std.specs.Int.Digits.{digits_of, number_from_digits}
 use Rattle.std.specs.List.{AllByRecursion}
 use Rattle.std.proofs.lemmas.Fmt.{decimal_digit, decimal-digits_of}
 use Rattle.std.proofs.lemmas.Int.Digits.{digits_of_step, first_digits_of, all_below_base_digits_of, number_digits_of, number_push}
 use Rattle.std.proofs.ByRecursion.{All-map, All-weaker}
 use Rattle.std.proofs.lemmas.List.{map-append, map_more, take_more, append_assoc, append-nil, nil_from_length}
-use Rattle.std.proofs.lemmas.Bool.{and_parts, and_from, and_left, and_right, leb-true, le-leb, eqb-true, eqb-false, ne_eqb, lt-ltb, both_ways}
-use Rattle.numerals.specs.Numerals.{is_digit, all_digits, begins_number, is_number, value_of, held, numeral_of}
-use Rattle.numerals.specs.Decimal.{written, Reads, some_number, no_number, Stands}
+use Rattle.std.proofs.lemmas.Bool.{and_parts, and_from, and_left, and_right, leb-true, le-leb, eqb-true, eqb-false, ne_eqb, lt-ltb, both_ways, cases_lt, le-ltb}
+use Rattle.numerals.specs.declared.numeral.NumeralError.TheVariants.{NotANumber, TooLarge}
+use Rattle.numerals.specs.Numerals.{is_digit, all_digits, begins_number, is_number, value_of, read, numeral_of}
+use Rattle.numerals.specs.Decimal.{written, Reads, some_number, large_number, no_number, Stands}
 
 -- ---- digits
 
@@ -136,19 +138,26 @@ number_written (suc n) =
 -- ---- reading
 
 -- what is written of a number is read as that number
-pub numeral_written : (bs : List ℕ) (n : ℕ) → bs ≡ written n → numeral_of bs ≡ Some (record { value = held n })
+pub numeral_written : (bs : List ℕ) (n : ℕ) → bs ≡ written n → numeral_of bs ≡ read n
 numeral_written bs n e =
     ap numeral_of e
-    ∙ (ap (λ (z : Bool). cond z (Some (record { value = held (value_of (written n)) })) None) (number_written n)
-    ∙ ap (λ (x : ℕ). Some (record { value = held x })) (value_written n))
+    ∙ (ap (λ (z : Bool). cond z (read (value_of (written n))) (Err NotANumber)) (number_written n)
+    ∙ ap read (value_written n))
+
+written_reads : (bs : List ℕ) (n : ℕ) → bs ≡ written n → Reads bs (read n)
+written_reads bs n e =
+    ⊎_elim
+    (λ l. subst (Reads bs) (sym (ap (λ (z : Bool). ok_or (cond z (Some n) None) TooLarge) (lt-ltb n (2 ^ 64) l))) (some_number n e l))
+    (λ l. subst (Reads bs) (sym (ap (λ (z : Bool). ok_or (cond z (Some n) None) TooLarge) (le-ltb n (2 ^ 64) l))) (large_number n e l))
+    (cases_lt n (2 ^ 64))
 
 told : (bs : List ℕ) → Reads bs (numeral_of bs)
 told bs = go (is_number bs) refl
   where
     go : (z : Bool) → is_number bs ≡ z → Reads bs (numeral_of bs)
-    go true h = let w = from_number bs h in subst (Reads bs) (sym (numeral_written bs w.0 w.1)) (some_number w.0 w.1)
+    go true h = let w = from_number bs h in subst (Reads bs) (sym (numeral_written bs w.0 w.1)) (written_reads bs w.0 w.1)
     go false h =
-        subst (Reads bs) (sym (ap (λ (z : Bool). cond z (Some (record { value = held (value_of bs) })) None) h))
+        subst (Reads bs) (sym (ap (λ (z : Bool). cond z (read (value_of bs)) (Err NotANumber)) h))
         (no_number (λ n e. both_ways (is_number bs) h (ap is_number e ∙ number_written n)))
 
 pub stands : Stands

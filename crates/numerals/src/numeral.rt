@@ -1,19 +1,25 @@
 ghost use Rattle.std.specs.Prelude.{◌≡◌, ℕ, ◌+◌, ◌*◌};
-ghost use Rattle.numerals.specs.Numerals.{is_digit, held, begins_number, counted, numeral_of};
+ghost use Rattle.numerals.specs.Numerals.{held, begins_number, counted, numeral_of};
 ghost use Rattle.numerals.specs.Decimal.{Stands};
 
-/// A number of the form: 0 alone, or digits that do not begin with 0.
-#[derive(Clone, Copy)]
-pub struct Numeral {
-    /// The number, if it is below 2^64.
-    pub value: Option<u64>,
+/// Why a text gives no number.
+#[derive(Clone, Copy, Debug, PartialEq, Eq)]
+pub enum NumeralError {
+    /// It is neither 0 alone nor digits that do not begin with 0.
+    NotANumber,
+    /// It is a number, of 2^64 or more.
+    TooLarge,
 }
 
-/// The number that a text is, if it is one.
-pub fn number(text: &[u8]) -> Option<Numeral>
+/// The number that a text is: 0 alone, or digits that do not begin with 0.
+pub fn number(text: &[u8]) -> Result<u64, NumeralError>
     ensures { result ≡ numeral_of text.now }
 {
-    if begins(text) { digits(text) } else { None }
+    if begins(text) {
+        digits(text)
+    } else {
+        Err(NumeralError::NotANumber)
+    }
 }
 
 // Whether there is a first digit, and a 0 only where it is alone.
@@ -29,23 +35,17 @@ fn begins(text: &[u8]) -> bool
 }
 
 // Bytes that are all digits, as a number.
-fn digits(text: &[u8]) -> Option<Numeral>
+fn digits(text: &[u8]) -> Result<u64, NumeralError>
     ensures { result ≡ counted text.now }
 {
     let mut value = Some(0);
     for byte in text {
-        if !digit(*byte) {
-            return None;
+        if !byte.is_ascii_digit() {
+            return Err(NumeralError::NotANumber);
         }
         value = grown(value, *byte - b'0');
     }
-    Some(Numeral { value })
-}
-
-fn digit(byte: u8) -> bool
-    ensures { result ≡ is_digit byte }
-{
-    b'0' <= byte && byte <= b'9'
+    value.ok_or(NumeralError::TooLarge)
 }
 
 // A number with one more digit.

@@ -1,9 +1,11 @@
 -- Counting the bits in which two values differ.
-use Rattle.std.proofs.Common.{◌≡◌, ℕ, zero, suc, ◌+◌, ◌/◌, ◌%◌, ◌^◌, ◌<◌, ◌≤◌, cond, eqb, ℤ, pos, negsuc, nat_abs, sym, refl, ap, ◌∙◌, mod-eq_of_lt, one-add, arith, w32, SFits, to_z, of_z}
+use Rattle.std.proofs.Common.{◌≡◌, ℕ, zero, suc, ◌+◌, ◌/◌, ◌%◌, ◌^◌, ◌<◌, ◌≤◌, cond, eqb, ℤ, pos, negsuc, nat_abs, sym, ap, ◌∙◌, mod-eq_of_lt, one-add, arith, w32, SFits, to_z, of_z}
 use lib.Bits.{bit_xor}
 use lib.Count.{ones, ones_cat, ones-ones}
 use mir.ValLaws.{of_z_fits}
-use Rattle.std.proofs.lemmas.Nat.{mod-pow-add, mod_below, ones-le, pow_pos, xor_lt, xor_mod, xor_shr}
+use Rattle.std.proofs.lemmas.Bool.Decides.{nat_tests}
+use Rattle.std.proofs.lemmas.Nat.{mod-pow-add, mod_below, ones-le, pow_pos, xor_lt}
+use Rattle.std.proofs.lemmas.Nat.Bits.{bit_at_xor, bit_at-lt}
 use Rattle.std.proofs.lemmas.Int.{to_z-of_z}
 use Rattle.std.specs.Int.{int_rem_euclid}
 use Rattle.operations.specs.Words.{differing}
@@ -23,21 +25,13 @@ ones_more : (n k : ℕ) → ones (n % 2 ^ suc k) ≡ n / 2 ^ k % 2 + ones (n % 2
 ones_more n k =
     ap (λ j. ones (n % 2 ^ j)) (sym (one-add k)) ∙ ap ones (mod-pow-add n 1 k)
     ∙ ones_cat k (n / 2 ^ k % 2) (n % 2 ^ k) (mod_below n (2 ^ k) (pow_pos k))
-    ∙ ap (λ x. x + ones (n % 2 ^ k)) (ones_bit (n / 2 ^ k % 2) (mod_below (n / 2 ^ k) 2 (omega arith)))
+    ∙ ap (λ x. x + ones (n % 2 ^ k)) (ones_bit (n / 2 ^ k % 2) (bit_at-lt n k))
 
-xor_of_bits : (p q : ℕ) → p < 2 → q < 2 → bit_xor p q ≡ cond (eqb p q) 0 1
-xor_of_bits zero zero h k = refl
-xor_of_bits zero (suc zero) h k = refl
-xor_of_bits (suc zero) zero h k = refl
-xor_of_bits (suc zero) (suc zero) h k = refl
-xor_of_bits (suc (suc p)) q h k = absurd (omega arith)
-xor_of_bits zero (suc (suc q)) h k = absurd (omega arith)
-xor_of_bits (suc zero) (suc (suc q)) h k = absurd (omega arith)
+unequal : (p q : ℕ) → p < 2 → q < 2 → (p + q) % 2 ≡ cond (eqb p q) 0 1
+unequal p q h k = grind (arith, nat_tests)
 
 xor_bit : (x y i : ℕ) → bit_xor x y / 2 ^ i % 2 ≡ cond (eqb (x / 2 ^ i % 2) (y / 2 ^ i % 2)) 0 1
-xor_bit x y i =
-    ap (λ n. n % 2) (xor_shr x y i) ∙ xor_mod (x / 2 ^ i) (y / 2 ^ i) 1
-    ∙ xor_of_bits _ _ (mod_below (x / 2 ^ i) 2 (omega arith)) (mod_below (y / 2 ^ i) 2 (omega arith))
+xor_bit x y i = bit_at_xor x y i ∙ unequal _ _ (bit_at-lt x i) (bit_at-lt y i)
 
 module _ (a b : ℤ) (f : SFits w32 a) (g : SFits w32 b) where
   small : bit_xor (of_z w32 a) (of_z w32 b) < 2 ^ 32

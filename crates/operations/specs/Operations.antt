@@ -1,9 +1,10 @@
 -- What each of the eight operations gives, and how they are numbered. Values are whole numbers from -2^31 to 2^31 - 1;
--- `wrapped w32 z` is the value that differs from z by a multiple of 2^32. Assumes nothing.
-use Rattle.std.specs.Prelude.{ℕ, ◌+◌, ◌*◌, ◌/◌, Bool, false, cond, List, [], ◌∷◌, map, ℤ, pos, negsuc, ◌+ℤ◌, ◌-ℤ◌, ◌*ℤ◌, neg_ℤ, Some, None, Option, ◌==◌, bit_xor, count_ones, int_lt, slice_index_or, unsigned_abs}
+-- `int_wrap w32 z` is the value that differs from z by a multiple of 2^32. Assumes nothing.
+use Rattle.std.specs.Prelude.{◌≡◌, ℕ, ◌+◌, ◌*◌, ◌/◌, Bool, false, cond, List, [], ◌∷◌, map, ℤ, pos, negsuc, ◌+ℤ◌, ◌-ℤ◌, ◌*ℤ◌, neg_ℤ, Some, None, Option, Result, ok_or, ◌==◌, bit_xor, count_ones, int_lt, slice_index_or, unsigned_abs}
 use Rattle.std.proofs.Common.{of_z}
 use Rattle.std.specs.Int.{int_min, int_wrap, w32}
 use Rattle.operations.specs.declared.operation.Operation.{Operation}
+use Rattle.operations.specs.declared.operation.UnknownOperation.{UnknownOperation}
 use Rattle.operations.specs.declared.operation.Operation.TheVariants.{Sum, Difference, Product, Share, Equal, Less, Differing, Lesser}
 
 -- the operations in the order of their numbers, from 0
@@ -13,6 +14,10 @@ in_order = Sum ∷ Difference ∷ Product ∷ Share ∷ Equal ∷ Less ∷ Diffe
 -- the operation with this number, if there is one
 abbrev pub numbered : ℕ → Option Operation
 numbered n = slice_index_or (map Some in_order) n None
+
+-- a number is converted to the operation that has it; where none has it, the error names it
+abbrev pub Numbered : ℕ → Result Operation UnknownOperation → Type 0
+Numbered n converted = converted ≡ ok_or (numbered n) (record { 0 = n })
 
 abbrev pub equal : ℤ → ℤ → Bool
 equal (pos a) (pos b) = a == b

@@ -5,4 +5,4 @@ mod operation;
 mod share;
 pub mod words;
 
-pub use operation::Operation;
+pub use operation::{Operation, UnknownOperation};

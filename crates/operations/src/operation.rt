@@ -1,10 +1,10 @@
 ghost use Rattle.std.specs.Prelude.{◌≡◌, bit_xor, count_ones};
-ghost use Rattle.operations.specs.Operations.{applied, numbered};
+ghost use Rattle.operations.specs.Operations.{Numbered, applied};
 
 use crate::share::share;
 
 /// What a row may compute of two values, its first and its second.
-#[derive(Clone, Copy)]
+#[derive(Clone, Copy, Debug, PartialEq, Eq)]
 pub enum Operation {
     /// The sum, brought into the range of values by a multiple of 2^32.
     Sum,
@@ -24,24 +24,32 @@ pub enum Operation {
     Lesser,
 }
 
-impl Operation {
-    /// The operation with a number, 0 to 7.
-    pub fn numbered(number: u8) -> Option<Operation>
-        ensures { result ≡ numbered number }
-    {
+/// A number that no operation has.
+#[derive(Clone, Copy, Debug, PartialEq, Eq)]
+pub struct UnknownOperation(pub u8);
+
+/// The operation with a number, 0 to 7.
+impl TryFrom<u8> for Operation {
+    type Error = UnknownOperation;
+
+    ghost try_from_gives = { Numbered };
+
+    fn try_from(number: u8) -> Result<Operation, UnknownOperation> {
         match number {
-            0 => Some(Operation::Sum),
-            1 => Some(Operation::Difference),
-            2 => Some(Operation::Product),
-            3 => Some(Operation::Share),
-            4 => Some(Operation::Equal),
-            5 => Some(Operation::Less),
-            6 => Some(Operation::Differing),
-            7 => Some(Operation::Lesser),
-            _ => None,
+            0 => Ok(Operation::Sum),
+            1 => Ok(Operation::Difference),
+            2 => Ok(Operation::Product),
+            3 => Ok(Operation::Share),
+            4 => Ok(Operation::Equal),
+            5 => Ok(Operation::Less),
+            6 => Ok(Operation::Differing),
+            7 => Ok(Operation::Lesser),
+            _ => Err(UnknownOperation(number)),
         }
     }
+}
 
+impl Operation {
     /// What the operation gives of a first and a second value.
     pub fn apply(self, first: i32, second: i32) -> i32
         ensures { result ≡ applied self first second }

@@ -1,5 +1,5 @@
 //! Division to the nearest whole number.
-ghost use Rattle.std.specs.Prelude.{◌≡◌, ◌*◌, ◌^◌, ◌<◌, ◌≤◌, true, false, pos, int_lt};
+ghost use Rattle.std.specs.Prelude.{◌≡◌, ◌*◌, ◌^◌, ◌<◌, ◌≤◌, ◌↔◌, IsTrue, pos, int_lt};
 ghost use Rattle.std.specs.Bool.{beq};
 ghost use Rattle.operations.specs.Operations.{nearest, shared};
 
@@ -42,8 +42,7 @@ fn nearest(size: u32, by: u32) -> u32
 // Whether what is left over is at least half of the divisor.
 fn is_half(left: u32, by: u32) -> bool
     requires { left < by }
-    ensures yes { result ≡ true → by ≤ 2 * left }
-    ensures no { result ≡ false → 2 * left < by }
+    ensures { IsTrue result ↔ (by ≤ 2 * left) }
 {
     by - left <= left
 }

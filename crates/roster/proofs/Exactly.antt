@@ -4,16 +4,15 @@ use native.Mathlib.Nat.{min-eq_left}
 use Rattle.std.proofs.lemmas.List.{append_assoc, append-nil, length-append, length_push}
 use Rattle.std.proofs.lemmas.Bool.{cases_lt, lt-ltb, le-ltb}
 use Rattle.roster.specs.declared.fault.RosterFault.{RosterFault}
-use Rattle.roster.specs.declared.fault.RosterFault.TheVariants.{TooLong, Line}
+use Rattle.roster.specs.declared.fault.RosterFault.TheVariants.{TooLong}
 use Rattle.roster.specs.declared.fault.LineReason.{LineReason}
-use Rattle.roster.specs.declared.fault.LineReason.TheVariants.{Form}
 use Rattle.table.specs.declared.table.Table.{Table}
 use Rattle.table.specs.Slots.{blank_table}
-use Rattle.roster.specs.Spelling.{Entry, spell, spelled, FaultAt}
+use Rattle.roster.specs.Spelling.{Entry, spell, spelled}
 use Rattle.roster.specs.Reading.{start, fault_in, with_entry, read_from, lines_of, roster_of}
 use Rattle.roster.specs.Told.{AllInOrder, none, one_more, Holds, Tells, too_long, accepted, formless, refused, Exact}
 use Rattle.roster.proofs.Leads.{Lead, found, stuck, lead, found_is}
-use Rattle.roster.proofs.Faulty.{stuck_is, fault_stops}
+use Rattle.roster.proofs.Faulty.{stuck_is, scan_fault}
 use Rattle.roster.proofs.Scans.{listed, leading, scan_none, scan_lead, scan_spell}
 use Rattle.roster.proofs.Growing.{holds_none, holds_more, same_table, none_at_fault, some_at_fault, says}
 
@@ -102,10 +101,6 @@ told w text =
 
 after_entries : {w : ℕ} {text : List ℕ} {es : List Entry} (rest : List ℕ) → length text ≤ 4096 → text ≡ spelled es ++ rest → (r : Read w es) → roster_of w text ≡ read_from w r.table (length es) start 0 rest
 after_entries {w} {text} rest short is r = roster_short w text short ∙ (ap (lines_of w) is ∙ r.onward rest)
-
-scan_fault : (w : ℕ) (t : Table) (i : ℕ) (rest : List ℕ) (k : ℕ) → 0 < length rest → FaultAt rest k → read_from w t i start 0 rest ≡ Err (Line i (Form k))
-scan_fault w t i [] k some f = absurd (omega (arith, some))
-scan_fault w t i (b ∷ bs) k some f = scan_lead w t i bs start 0 b ∙ ap (λ (l : Lead). leading l w t i) (fault_stops (b ∷ bs) k f)
 
 only : (w : ℕ) (text : List ℕ) (r : Result Table RosterFault) → Tells w text r → r ≡ roster_of w text
 only w text r (too_long l) = sym (roster_long w text l)

@@ -1,14 +1,18 @@
 -- The offset of a fault of form: the reading stops there, and there alone. Assumes nothing.
-use Rattle.std.proofs.Common.{◌≡◌, ℕ, suc, ◌+◌, ◌<◌, List, [], ◌∷◌, ◌++◌, length, get_or, take, drop, sym, refl, ap, ◌∙◌, subst, ⊎_elim, add-zero, arith}
+use Rattle.std.proofs.Common.{◌≡◌, ℕ, suc, ◌+◌, ◌<◌, List, [], ◌∷◌, ◌++◌, length, get_or, take, drop, Err, sym, refl, ap, ◌∙◌, subst, ⊎_elim, add-zero, arith}
 use Rattle.std.proofs.lemmas.List.{append_assoc, append-nil, length-append, length_push, length-take-le, take-append-drop, take-take, take_at, take-append-le, drop_more, get_or-take, get_or-append-add, get_or_append_left}
 use Rattle.std.proofs.lemmas.Bool.{cases_lt, cases_order}
 use Rattle.roster.specs.Spelling.{Entry, spell, May, FaultAt}
-use Rattle.roster.specs.Reading.{Place, start, Next, never, more, whole, after}
+use Rattle.roster.specs.declared.fault.RosterFault.TheVariants.{Line}
+use Rattle.roster.specs.declared.fault.LineReason.TheVariants.{Form}
+use Rattle.table.specs.declared.table.Table.{Table}
+use Rattle.roster.specs.Reading.{Place, start, Next, never, more, whole, after, read_from}
 use Rattle.roster.proofs.Front.{so_far, Adds, adds, opens, past_end}
 use Rattle.roster.proofs.Leads.{Lead, found, stuck, lead, lead_step, lead_spell, never_may, found_is}
+use Rattle.roster.proofs.Scans.{leading, scan_lead}
 
 -- the reading stops at a byte that no line has there
-fault_now : (p : Place) (bs : List ℕ) → after p (get_or bs 0 256) ≡ never → FaultAt (so_far p ++ bs) (length (so_far p))
+pub fault_now : (p : Place) (bs : List ℕ) → after p (get_or bs 0 256) ≡ never → FaultAt (so_far p ++ bs) (length (so_far p))
 fault_now p bs stop =
     let front : take (length (so_far p)) (so_far p ++ bs) ≡ so_far p = take_at (so_far p) bs (length (so_far p)) refl in
     let byte : get_or (so_far p ++ bs) (length (so_far p)) 256 ≡ get_or bs 0 256 =
@@ -19,7 +23,7 @@ fault_now p bs stop =
       here = λ m. never_may p (get_or bs 0 256) stop (subst (May (so_far p)) byte (subst (λ (xs : List ℕ). May xs (get_or (so_far p ++ bs) (length (so_far p)) 256)) front m));
     }
 
-at_length : (rest : List ℕ) (j k : ℕ) → j ≡ k → FaultAt rest j → FaultAt rest k
+pub at_length : (rest : List ℕ) (j k : ℕ) → j ≡ k → FaultAt rest j → FaultAt rest k
 at_length rest j k e f = subst (FaultAt rest) e f
 
 pub stuck_is : (bs : List ℕ) (p : Place) (k j : ℕ) → length (so_far p) ≡ k → lead p k bs ≡ stuck j → FaultAt (so_far p ++ bs) j
@@ -41,7 +45,7 @@ stuck_is (b ∷ bs) p k j len h = go (after p b) refl (λ q. stuck_is bs q (suc 
 -- ---- there is one such offset, and none where a line is whole
 
 -- a front of xs, and its byte at k
-parted_at : (xs : List ℕ) (k d : ℕ) → k < length xs → xs ≡ take k xs ++ (get_or xs k d ∷ drop (k + 1) xs)
+pub parted_at : (xs : List ℕ) (k d : ℕ) → k < length xs → xs ≡ take k xs ++ (get_or xs k d ∷ drop (k + 1) xs)
 parted_at xs k d l = sym (take-append-drop k xs) ∙ ap (λ (ys : List ℕ). take k xs ++ ys) (drop_more xs k d l)
 
 earlier : (rest : List ℕ) (k j : ℕ) → k < j → FaultAt rest k → FaultAt rest j → ⊥
@@ -90,3 +94,8 @@ fault_stops rest k f = go (lead start 0 rest) refl
     go : (l : Lead) → lead start 0 rest ≡ l → l ≡ stuck k
     go (stuck j) e = ap stuck (same_fault rest j k (stuck_is rest start 0 j refl e) f)
     go (found z tail) e = absurd (not_whole rest k z tail f (found_is rest start 0 z tail e))
+
+-- and the reading of a text is at fault there
+pub scan_fault : (w : ℕ) (t : Table) (i : ℕ) (rest : List ℕ) (k : ℕ) → 0 < length rest → FaultAt rest k → read_from w t i start 0 rest ≡ Err (Line i (Form k))
+scan_fault w t i [] k some f = absurd (omega (arith, some))
+scan_fault w t i (b ∷ bs) k some f = scan_lead w t i bs start 0 b ∙ ap (λ (l : Lead). leading l w t i) (fault_stops (b ∷ bs) k f)

@@ -1,22 +1,22 @@
--- What the reader's loop keeps. Assumes nothing.
+-- What the reader's loops keep. Assumes nothing.
 use Rattle.std.proofs.Common.{◌≡◌, ℕ, suc, ◌+◌, ◌-◌, ◌*◌, ◌<◌, ◌≤◌, Bool, true, false, cond, not, ◌&&◌, eqb, List, [], ◌∷◌, ◌++◌, length, get_or, take, drop, Some, None, Ok, Err, Option, sym, refl, ap, ◌∙◌, subst, arith}
-use Rattle.std.proofs.lemmas.List.{drop_more, drop_all, take_more, get_or-drop, length-drop}
+use Rattle.std.proofs.lemmas.List.{append_assoc, append-nil, length-append, length-take-le, nil_from_length, take_all, take_more}
 use Rattle.std.proofs.lemmas.Bool.{ne_eqb, eqb-false, not-true, and_parts}
 use Rattle.roster.specs.declared.fault.RosterFault.TheVariants.{Line}
 use Rattle.roster.specs.declared.fault.LineReason.{LineReason}
 use Rattle.roster.specs.declared.fault.LineReason.TheVariants.{Form}
 use Rattle.table.specs.declared.table.Table.{Table}
 use Rattle.roster.specs.declared.place.Place as code
-use Rattle.roster.specs.declared.place.Place.TheVariants.{Start}
 use Rattle.roster.specs.declared.place.Step.{Step}
 use Rattle.roster.specs.declared.place.Step.TheVariants.{Never, On, Whole as Done}
 use Rattle.numerals.specs.Numerals.{is_digit}
-use Rattle.roster.specs.Spelling.{person, Entry}
+use Rattle.roster.specs.Spelling.{person, Entry, spell, FaultAt}
 use Rattle.roster.specs.Reading.{Place, start, letter_of, comma, number, comma_after, label, Next, never, more, whole, grown, after, fault_in, read_from, lines_of}
 use Rattle.roster.specs.Places.{place_of, some_line, stepped}
 use Rattle.roster.specs.Parts.{unended, KeptAs}
-use Rattle.roster.proofs.Front.{so_far, Adds, adds, Ends, ends}
-use Rattle.roster.proofs.Scans.{listed, scanned, scan_step, scan_none, scan_ends}
+use Rattle.roster.proofs.Front.{so_far, Adds, adds, Ends, ends, past_end}
+use Rattle.roster.proofs.Faulty.{fault_now, at_length, parted_at, scan_fault}
+use Rattle.roster.proofs.Scans.{listed, scan_none, scan_spell}
 
 -- ---- the code's place stands for what was said
 
@@ -58,118 +58,109 @@ same_step (label k n m) b =
     either (eqb b 10) (whole (record { kind = person; number = 0; label = o })) (grown o b (label person 0)) (whole (record { kind = k; number = n; label = m })) (grown m b (label k n)) refl
     (grown_alike o m b (label person 0) (label k n) (stands_for m (eqb m 0) refl) (λ x y e. ap code.Place.Label e))
 
--- ---- the loop
+-- ---- the bytes of a line
 
--- The line that begins at `from` has said `said` up to i, and what is left of the text is read to what the text is read to.
-pub record Going (w : ℕ) (text : List ℕ) (t : Table) (line from i : ℕ) (place : code.Place) : Type 0 where
+abbrev which : Step → ℕ
+which Never = 0
+which (On p) = 1
+which Done = 2
+
+-- the first i bytes of a text lead to the place
+pub record Led (text : List ℕ) (i : ℕ) (place : code.Place) : Type 0 where
   pub said : Place
   pub place_is : place ≡ place_of said
-  pub bytes : so_far said ≡ take (i - from) (drop from text)
-  pub begun : from ≤ i
-  pub few : line ≤ from
-  pub onward : read_from w t line said (i - from) (drop i text) ≡ lines_of w text
+  pub bytes : so_far said ≡ take i text
 
-module _ {w : ℕ} {text : List ℕ} {t : Table} {line from i : ℕ} {place : code.Place} (g : Going w text t line from i place) where
+module _ {text : List ℕ} {i : ℕ} {place : code.Place} (g : Led text i place) where
   -- what the code says of the next byte is what the reading says
-  said_so : (s : Step) (b : ℕ) → s ≡ stepped (after (some_line place) b) → s ≡ stepped (after g.said b)
-  said_so s b e = e ∙ (ap (λ (p : code.Place). stepped (after (some_line p) b)) g.place_is ∙ same_step g.said b)
+  said_so : (s : Step) (b : ℕ) (n : Next) → s ≡ stepped (after (some_line place) b) → after g.said b ≡ n → s ≡ stepped n
+  said_so s b n told e = told ∙ (ap (λ (p : code.Place). stepped (after (some_line p) b)) g.place_is ∙ (same_step g.said b ∙ ap stepped e))
 
-  -- at the text's end
-  at_end : length text ≤ i → drop i text ≡ []
-  at_end l = drop_all i text l
+  -- so it says no other
+  other : (s : Step) (b : ℕ) (n : Next) → s ≡ stepped (after (some_line place) b) → after g.said b ≡ n → which s ≡ which (stepped n)
+  other s b n told e = ap which (said_so s b n told e)
 
-  pub going_short : i ≤ length text → length text ≤ i → from < length text → Err (Line line (Form (length text - from))) ≡ lines_of w text
-  going_short le l some =
-      let n : length text - from ≡ i - from = omega arith in
-      ap (λ (k : ℕ). Err (Line line (Form k))) n
-      ∙ (sym (scan_ends w t line g.said (i - from) (omega arith)) ∙ (ap (read_from w t line g.said (i - from)) (sym (at_end l)) ∙ g.onward))
-
-  pub going_all : i ≤ length text → length text ≤ i → length text ≤ from → Ok t ≡ lines_of w text
-  going_all le l some =
-      let n : 0 ≡ i - from = omega arith in
-      sym (scan_none w t line g.said)
-      ∙ (ap (λ (k : ℕ). read_from w t line g.said k []) n ∙ (ap (read_from w t line g.said (i - from)) (sym (at_end l)) ∙ g.onward))
+  pub led_end : length text ≤ i → FaultAt text (length text)
+  led_end l =
+      let all : so_far g.said ≡ text = g.bytes ∙ take_all i text l in
+      at_length text (length (so_far g.said)) (length text) (ap length all)
+      (subst (λ (xs : List ℕ). FaultAt xs (length (so_far g.said))) (append-nil (so_far g.said) ∙ all) (fault_now g.said [] (past_end g.said)))
 
   module _ (l : i < length text) where
-    step_on : (n : Next) → after g.said (get_or text i 0) ≡ n → scanned n w t line (i - from) (drop (i + 1) text) ≡ lines_of w text
-    step_on n e =
-        sym (scan_step w t line g.said (i - from) (get_or text i 0) (drop (i + 1) text) n e)
-        ∙ (ap (read_from w t line g.said (i - from)) (sym (drop_more text i 0 l)) ∙ g.onward)
+    parted : so_far g.said ++ (get_or text i 0 ∷ drop (i + 1) text) ≡ text
+    parted = ap (λ (xs : List ℕ). xs ++ (get_or text i 0 ∷ drop (i + 1) text)) g.bytes ∙ sym (parted_at text i 0 l)
 
-    pub going_never : Never ≡ stepped (after (some_line place) (get_or text i 0)) → Err (Line line (Form (i - from))) ≡ lines_of w text
-    going_never told = go (after g.said (get_or text i 0)) refl
+    pub led_never : Never ≡ stepped (after (some_line place) (get_or text i 0)) → FaultAt text i
+    led_never told = go (after g.said (get_or text i 0)) refl
       where
-        go : (n : Next) → after g.said (get_or text i 0) ≡ n → Err (Line line (Form (i - from))) ≡ lines_of w text
-        go never e = step_on never e
-        go (more q) e = let s : Never ≡ On (place_of q) = said_so Never (get_or text i 0) told ∙ ap stepped e in let z : ◌≡◌ {A = ℕ} 0 1 = cc in absurd (omega arith)
-        go (whole x) e = let s : Never ≡ Done = said_so Never (get_or text i 0) told ∙ ap stepped e in let z : ◌≡◌ {A = ℕ} 0 1 = cc in absurd (omega arith)
+        go : (n : Next) → after g.said (get_or text i 0) ≡ n → FaultAt text i
+        go never e =
+            at_length text (length (so_far g.said)) i (ap length g.bytes ∙ length-take-le i text (omega arith))
+            (subst (λ (xs : List ℕ). FaultAt xs (length (so_far g.said))) parted (fault_now g.said (get_or text i 0 ∷ drop (i + 1) text) e))
+        go (more q) e = absurd (omega (arith, other Never (get_or text i 0) (more q) told e))
+        go (whole x) e = absurd (omega (arith, other Never (get_or text i 0) (whole x) told e))
 
-    pub going_on : (next : code.Place) → On next ≡ stepped (after (some_line place) (get_or text i 0)) → Going w text t line from (i + 1) next
-    going_on next told = go (after g.said (get_or text i 0)) refl
+    pub led_on : (next : code.Place) → On next ≡ stepped (after (some_line place) (get_or text i 0)) → Led text (i + 1) next
+    led_on next told = go (after g.said (get_or text i 0)) refl
       where
-        go : (n : Next) → after g.said (get_or text i 0) ≡ n → Going w text t line from (i + 1) next
-        go never e = let s : On next ≡ Never = said_so (On next) (get_or text i 0) told ∙ ap stepped e in let z : ◌≡◌ {A = ℕ} 0 1 = cc in absurd (omega arith)
-        go (whole x) e = let s : On next ≡ Done = said_so (On next) (get_or text i 0) told ∙ ap stepped e in let z : ◌≡◌ {A = ℕ} 0 1 = cc in absurd (omega arith)
+        go : (n : Next) → after g.said (get_or text i 0) ≡ n → Led text (i + 1) next
+        go never e = absurd (omega (arith, other (On next) (get_or text i 0) never told e))
+        go (whole x) e = absurd (omega (arith, other (On next) (get_or text i 0) (whole x) told e))
         go (more q) e =
-            let s : On next ≡ On (place_of q) = said_so (On next) (get_or text i 0) told ∙ ap stepped e in
+            let s = said_so (On next) (get_or text i 0) (more q) told e in
             let is : next ≡ place_of q = cc in
-            let b = g.begun in
             let a : so_far q ≡ so_far g.said ++ (get_or text i 0 ∷ []) = subst (Adds g.said (get_or text i 0)) e (adds g.said (get_or text i 0)) in
-            let n : i + 1 - from ≡ i - from + 1 = omega arith in
-            let m : from + (i - from) ≡ i = omega arith in
-            let k : suc (i - from) ≡ i + 1 - from = omega arith in
-            let inside : i - from < length (drop from text) = omega (arith, length-drop from text) in
-            let x : get_or (drop from text) (i - from) 0 ≡ get_or text i 0 = get_or-drop from text (i - from) 0 ∙ ap (λ (j : ℕ). get_or text j 0) m in
-            record {
-              said = q;
-              place_is = is;
-              bytes =
-                  a
-                  ∙ (ap (λ (xs : List ℕ). xs ++ (get_or text i 0 ∷ [])) g.bytes
-                  ∙ (ap (λ (y : ℕ). take (i - from) (drop from text) ++ (y ∷ [])) (sym x)
-                  ∙ (sym (take_more (drop from text) (i - from) 0 inside) ∙ ap (λ (j : ℕ). take j (drop from text)) (sym n))));
-              begun = omega arith;
-              few = g.few;
-              onward = ap (λ (j : ℕ). read_from w t line q j (drop (i + 1) text)) (sym k) ∙ step_on (more q) e;
-            }
+            record { said = q; place_is = is; bytes = a ∙ (ap (λ (xs : List ℕ). xs ++ (get_or text i 0 ∷ [])) g.bytes ∙ sym (take_more text i 0 l)) }
 
-    pub going_whole : Done ≡ stepped (after (some_line place) (get_or text i 0)) → (e : Entry) × (take (i - from) (drop from text) ≡ unended e) × (listed (fault_in w e t) w t line e (drop (i + 1) text) ≡ lines_of w text)
-    going_whole told = go (after g.said (get_or text i 0)) refl
+    pub led_whole : Done ≡ stepped (after (some_line place) (get_or text i 0)) → (e : Entry) × (take i text ≡ unended e) × (text ≡ spell e ++ drop (i + 1) text)
+    led_whole told = go (after g.said (get_or text i 0)) refl
       where
-        go : (n : Next) → after g.said (get_or text i 0) ≡ n → (e : Entry) × (take (i - from) (drop from text) ≡ unended e) × (listed (fault_in w e t) w t line e (drop (i + 1) text) ≡ lines_of w text)
-        go never e = let s : Done ≡ Never = said_so Done (get_or text i 0) told ∙ ap stepped e in let z : ◌≡◌ {A = ℕ} 0 1 = cc in absurd (omega arith)
-        go (more q) e = let s : Done ≡ On (place_of q) = said_so Done (get_or text i 0) told ∙ ap stepped e in let z : ◌≡◌ {A = ℕ} 0 1 = cc in absurd (omega arith)
+        go : (n : Next) → after g.said (get_or text i 0) ≡ n → (e : Entry) × (take i text ≡ unended e) × (text ≡ spell e ++ drop (i + 1) text)
+        go never e = absurd (omega (arith, other Done (get_or text i 0) never told e))
+        go (more q) e = absurd (omega (arith, other Done (get_or text i 0) (more q) told e))
         go (whole x) e =
-            let a : so_far g.said ≡ unended x = subst (Ends g.said) e (ends g.said (get_or text i 0)) in
-            (x, sym g.bytes ∙ a, step_on (whole x) e)
+            let all : so_far g.said ≡ unended x = subst (Ends g.said) e (ends g.said (get_or text i 0)) in
+            let a : spell x ≡ so_far g.said ++ (get_or text i 0 ∷ []) = subst (Adds g.said (get_or text i 0)) e (adds g.said (get_or text i 0)) in
+            (x, sym g.bytes ∙ all, sym parted ∙ (sym (append_assoc (so_far g.said) (get_or text i 0 ∷ []) (drop (i + 1) text)) ∙ ap (λ (xs : List ℕ). xs ++ drop (i + 1) text) (sym a)))
 
 -- ---- a line that is listed, or refused
 
-pub kept_err : (o : Option LineReason) (w : ℕ) (t u : Table) (i : ℕ) (e : Entry) (bs : List ℕ) (reason : LineReason) → KeptAs o e t (Err reason) u → Err (Line i reason) ≡ listed o w t i e bs
+kept_err : (o : Option LineReason) (w : ℕ) (t u : Table) (i : ℕ) (e : Entry) (bs : List ℕ) (reason : LineReason) → KeptAs o e t (Err reason) u → Err (Line i reason) ≡ listed o w t i e bs
 kept_err (Some y) w t u i e bs reason k = let s : reason ≡ y = let h = k.0 in cc in ap (λ (x : LineReason). Err (Line i x)) s
 kept_err None w t u i e bs reason k = let h = k.0 in let z : ◌≡◌ {A = ℕ} 0 1 = cc in absurd (omega arith)
 
-pub kept_ok : (o : Option LineReason) (w : ℕ) (t u : Table) (i : ℕ) (e : Entry) (bs : List ℕ) → KeptAs o e t (Ok tt) u → read_from w u (suc i) start 0 bs ≡ listed o w t i e bs
+kept_ok : (o : Option LineReason) (w : ℕ) (t u : Table) (i : ℕ) (e : Entry) (bs : List ℕ) → KeptAs o e t (Ok tt) u → read_from w u (suc i) start 0 bs ≡ listed o w t i e bs
 kept_ok (Some y) w t u i e bs k = let h = k.0 in let z : ◌≡◌ {A = ℕ} 0 1 = cc in absurd (omega arith)
 kept_ok None w t u i e bs k = ap (λ (x : Table). read_from w x (suc i) start 0 bs) k.1
 
--- the next line begins
-pub going_next : (w : ℕ) (text : List ℕ) (t : Table) (line from i : ℕ) → line ≤ from → from ≤ i → read_from w t (suc line) start 0 (drop (i + 1) text) ≡ lines_of w text → Going w text t (line + 1) (i + 1) (i + 1) Start
-going_next w text t line from i few begun on =
-    let n : 0 ≡ i + 1 - (i + 1) = omega arith in
-    let m : suc line ≡ line + 1 = omega arith in
-    record {
-      said = start;
-      place_is = refl;
-      bytes = ap (λ (k : ℕ). take k (drop (i + 1) text)) n;
-      begun = omega arith;
-      few = omega arith;
-      onward =
-          ap (λ (k : ℕ). read_from w t (line + 1) start k (drop (i + 1) text)) (sym n) ∙ (ap (λ (k : ℕ). read_from w t k start 0 (drop (i + 1) text)) (sym m) ∙ on);
-    }
+-- ---- the lines of a text
 
--- the same under other names
-pub going_as : {w : ℕ} {text : List ℕ} {t u : Table} {line line' from from' i : ℕ} {p q : code.Place} → u ≡ t → line' ≡ line → from' ≡ from → q ≡ p → Going w text t line from i p → Going w text u line' from' i q
-going_as {w} {text} {t} {u} {line} {line'} {from} {from'} {i} {p} {q} e f g h going =
-    subst (λ (x : Table). Going w text x line' from' i q) (sym e)
-    (subst (λ (x : ℕ). Going w text t x from' i q) (sym f) (subst (λ (x : ℕ). Going w text t line x i q) (sym g) (subst (λ (x : code.Place). Going w text t line from i x) (sym h) going)))
+-- What is left of the text is read to what the text is read to.
+pub record Going (w : ℕ) (text : List ℕ) (t : Table) (line : ℕ) (left : List ℕ) : Type 0 where
+  pub few : line + length left ≤ length text
+  pub onward : read_from w t line start 0 left ≡ lines_of w text
+
+module _ {w : ℕ} {text : List ℕ} {t : Table} {line : ℕ} {left : List ℕ} (g : Going w text t line left) where
+  pub going_done : length left ≡ 0 → Ok t ≡ lines_of w text
+  going_done none = sym (scan_none w t line start) ∙ (ap (read_from w t line start 0) (sym (nil_from_length left none)) ∙ g.onward)
+
+  pub going_formless : (k : ℕ) → 0 < length left → FaultAt left k → Err (Line line (Form k)) ≡ lines_of w text
+  going_formless k some f = sym (scan_fault w t line left k some f) ∙ g.onward
+
+  module _ (e : Entry) (rest : List ℕ) (is : left ≡ spell e ++ rest) where
+    listed_on : listed (fault_in w e t) w t line e rest ≡ lines_of w text
+    listed_on = sym (scan_spell w t line e rest) ∙ (ap (read_from w t line start 0) (sym is) ∙ g.onward)
+
+    pub going_refused : (reason : LineReason) (u : Table) → KeptAs (fault_in w e t) e t (Err reason) u → Err (Line line reason) ≡ lines_of w text
+    going_refused reason u k = kept_err (fault_in w e t) w t u line e rest reason k ∙ listed_on
+
+    pub going_shorter : length rest < length left
+    going_shorter = omega (arith, ap length is, length-append (spell e) rest)
+
+    pub going_next : (u : Table) → KeptAs (fault_in w e t) e t (Ok tt) u → Going w text u (line + 1) rest
+    going_next u k =
+        let m : suc line ≡ line + 1 = omega arith in
+        record {
+          few = omega (arith, g.few, going_shorter);
+          onward = ap (λ (i : ℕ). read_from w u i start 0 rest) (sym m) ∙ (kept_ok (fault_in w e t) w t u line e rest k ∙ listed_on);
+        }

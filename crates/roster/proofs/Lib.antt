@@ -1,4 +1,3 @@
-pub mod Cuts
 pub mod Front
 pub mod Leads
 pub mod Faulty

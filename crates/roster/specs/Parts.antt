@@ -4,9 +4,11 @@ use Rattle.table.specs.declared.table.Table.{Table}
 use Rattle.numerals.specs.Decimal.{written}
 use Rattle.roster.specs.declared.fault.LineReason.{LineReason}
 use Rattle.roster.specs.declared.fault.LineReason.TheVariants.{Number, Label}
+use Rattle.roster.specs.declared.kind.Kind as listed
+use Rattle.roster.specs.declared.kind.Kind.TheVariants as code
 use Rattle.roster.specs.declared.line.RosterLine.{RosterLine}
 use Rattle.roster.specs.declared.line.RosterLine.TheVariants.{Person, Slot}
-use Rattle.roster.specs.Spelling.{Kind, person, slot, Entry, letter}
+use Rattle.roster.specs.Spelling.{Kind, person, slot, Entry, letter, spell}
 use Rattle.roster.specs.Reading.{label_limit, fault_in, with_entry}
 
 -- two numbers with a comma between them
@@ -26,10 +28,19 @@ pub record Whole (line : List ℕ) : Type 0 where
   pub entry : Entry
   pub is : line ≡ unended entry
 
+-- the kind that the code speaks of
+abbrev pub kind_of : listed.Kind → Kind
+kind_of code.Person = person
+kind_of code.Slot = slot
+
 -- the parts are those of the line that spells e
 abbrev pub Parted : RosterLine → Entry → Type 0
 Parted (Person number label) e = (e.kind ≡ person) × (number.now ≡ written e.number) × (label.now ≡ written e.label)
 Parted (Slot number label) e = (e.kind ≡ slot) × (number.now ≡ written e.number) × (label.now ≡ written e.label)
+
+-- a text begins with the line that has these parts, and the rest comes after it
+abbrev pub Begins : List ℕ → RosterLine → List ℕ → Type 0
+Begins text line rest = (e : Entry) × (text ≡ spell e ++ rest) × Parted line e
 
 -- a number of which there are `count`, and a label of so many bits
 abbrev pub in_range : ℕ → ℕ → Result ℕ LineReason

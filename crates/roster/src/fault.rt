@@ -2,7 +2,7 @@ ghost use Rattle.std.specs.Prelude.{◌≡◌};
 ghost use Rattle.roster.specs.Faults.{line_reason_number, line_reason_byte, roster_fault_number, roster_fault_line, roster_fault_byte};
 
 /// What is at fault in a line.
-#[derive(Clone, Copy)]
+#[derive(Clone, Copy, Debug, PartialEq, Eq)]
 pub enum LineReason {
     /// No line of the form has, at this offset from the line's start, what it has there.
     Form { byte: u16 },
@@ -15,7 +15,7 @@ pub enum LineReason {
 }
 
 /// What a roster is refused for.
-#[derive(Clone, Copy)]
+#[derive(Clone, Copy, Debug, PartialEq, Eq)]
 pub enum RosterFault {
     /// It is longer than 4096 bytes.
     TooLong,
@@ -23,6 +23,7 @@ pub enum RosterFault {
     Line { line: u16, reason: LineReason },
 }
 
+// The window's lines and the C interface tell a fault by its number, line and byte, so these stand beside the variants.
 impl LineReason {
     /// The number of the fault.
     pub fn number(self) -> u8

@@ -2,6 +2,7 @@
 #![tactic(auto)]
 
 mod fault;
+mod kind;
 mod line;
 mod listing;
 mod place;

@@ -4,7 +4,7 @@ ghost use Rattle.roster.specs.Reading.{after};
 ghost use Rattle.roster.specs.Places.{some_line, stepped};
 
 // How far a line has come. A number is `zero` when it is a 0 alone, after which no digit comes.
-#[derive(Clone, Copy)]
+#[derive(Clone, Copy, Debug, PartialEq, Eq)]
 pub(crate) enum Place {
     Start,
     Letter,
@@ -15,7 +15,7 @@ pub(crate) enum Place {
 }
 
 // What one more byte makes of a line.
-#[derive(Clone, Copy)]
+#[derive(Clone, Copy, Debug, PartialEq, Eq)]
 pub(crate) enum Step {
     // No line has the byte there.
     Never,

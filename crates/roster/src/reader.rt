@@ -1,12 +1,11 @@
 // The reader.
-ghost use Rattle.std.specs.Prelude.{◌≡◌, ◌-◌, ◌≤◌, length, nat_lt};
+ghost use Rattle.std.specs.Prelude.{◌≡◌, ◌≤◌, length, nat_lt};
 ghost use Rattle.roster.specs.Reading.{lines_of, roster_of};
 ghost use Rattle.roster.specs.Told.{Tells, Exact};
 
 use crate::fault::{LineReason, RosterFault};
-use crate::line::RosterLine;
+use crate::line::first_line;
 use crate::listing::list;
-use crate::place::{Place, Step};
 use table::Table;
 
 // The longest text that is read, in bytes.
@@ -29,45 +28,32 @@ fn is_long(text: &[u8]) -> bool
     text.len() > LONGEST
 }
 
-// Goes through the bytes once: each is the next of a line, ends it, or is at fault.
+// Takes one line after the other from the front, until nothing is left or one is at fault.
 fn read_lines(text: &[u8], width: u32) -> Result<Table, RosterFault>
     requires { length text.now ≤ 4096 }
     ensures { result ≡ lines_of width text.now }
 {
     let mut table = Table::blank();
     let mut line = 0;
-    let mut start = 0;
-    let mut place = Place::Start;
-    for (i, byte) in text.iter().enumerate() {
-        match place.after(*byte) {
-            Step::Never => return Err(formless(line, start, i)),
-            Step::Whole => {
-                if let Err(reason) = list(&mut table, RosterLine::of(&text[start..i]), width) {
-                    return Err(RosterFault::Line { line, reason });
-                }
-                line += 1;
-                start = i + 1;
-                place = Place::Start;
-            }
-            Step::On(next) => place = next,
-        }
-    }
-    if start < text.len() {
-        return Err(formless(line, start, text.len()));
+    let mut left = text;
+    // By `split_inclusive` each line would be gone through twice: once for its byte 10, and once for its form, which finds that byte too.
+    while !left.is_empty() {
+        let (entry, rest) = first_line(left).map_err(|byte| formless(line, byte))?;
+        list(&mut table, entry, width).map_err(|reason| RosterFault::Line { line, reason })?;
+        line += 1;
+        left = rest;
     }
     Ok(table)
 }
 
-// A line that begins at `start` and leaves the form at `end`.
-fn formless(line: u16, start: usize, end: usize) -> RosterFault
-    requires { (start ≤ end) × (end ≤ 4096) }
-    ensures { result ≡ RosterFault.Line line (LineReason.Form (end - start)) }
+// A line that leaves the form at a byte.
+fn formless(line: u16, byte: usize) -> RosterFault
+    requires { byte ≤ 4096 }
+    ensures { result ≡ RosterFault.Line line (LineReason.Form byte) }
 {
     RosterFault::Line {
         line,
-        reason: LineReason::Form {
-            byte: (end - start) as u16,
-        },
+        reason: LineReason::Form { byte: byte as u16 },
     }
 }
 

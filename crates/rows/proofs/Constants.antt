@@ -1,6 +1,9 @@
 -- A constant and its four bytes.
-use Rattle.std.proofs.Common.{◌≡◌, ℕ, ◌+◌, ◌*◌, ◌/◌, ◌%◌, ◌^◌, ◌<◌, List, [], ◌∷◌, ℤ, pos, negsuc, arith, w32, SFits, to_z, of_z}
-use Rattle.std.proofs.lemmas.Int.{ints, of_z-to_z, to_z-of_z}
+use Rattle.std.proofs.Common.{◌≡◌, ℕ, ◌+◌, ◌*◌, ◌/◌, ◌%◌, ◌^◌, ◌<◌, List, [], ◌∷◌, ℤ, arith, w32, SFits, to_z, of_z}
+use mir.ValLaws.{of_z_fits}
+use Rattle.std.proofs.Math.Facts.{sfits_to_z}
+use Rattle.std.proofs.lemmas.Int.{of_z-to_z, to_z-of_z}
+use Rattle.operations.proofs.Ranges.{of_fits, to_fits}
 use Rattle.operations.specs.Words.{Value}
 use Rattle.rows.specs.Writing.{constant_bytes}
 
@@ -20,19 +23,12 @@ module _ (a b c d : ℕ) (la : a < 256) (lb : b < 256) (lc : c < 256) (ld : d < 
       (four (omega arith) (omega arith) (omega arith) (omega arith))
 
   pub joined_is_value : Value (to_z w32 (joined a b c d))
-  joined_is_value = let h = joined_fits in record { low = omega (arith, ints); high = omega (arith, ints) }
-
-value_fits : (z : ℤ) → Value z → SFits w32 z
-value_fits (pos n) v = record { sfits = omega (arith, ints) }
-value_fits (negsuc n) v = record { sfits = omega (arith, ints) }
-
-of_z_fits : (z : ℤ) → SFits w32 z → of_z w32 z < 2 ^ 32
-of_z_fits z f = omega (arith, ints)
+  joined_is_value = of_fits _ (sfits_to_z (record { fits = joined_fits }))
 
 pub joined_bytes : (z : ℤ) → Value z →
     to_z w32 (joined (of_z w32 z / 2 ^ 24) (of_z w32 z / 2 ^ 16 % 256) (of_z w32 z / 2 ^ 8 % 256) (of_z w32 z % 256)) ≡ z
 joined_bytes z v =
-    let fits : SFits w32 z = value_fits z v in
-    let small = of_z_fits z fits in
+    let fits : SFits w32 z = to_fits z v in
+    let small = of_z_fits w32 z fits in
     let whole : joined (of_z w32 z / 2 ^ 24) (of_z w32 z / 2 ^ 16 % 256) (of_z w32 z / 2 ^ 8 % 256) (of_z w32 z % 256) ≡ of_z w32 z = omega arith in
     rw whole (to_z-of_z w32 z fits)

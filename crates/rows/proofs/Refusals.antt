@@ -1,8 +1,9 @@
 -- Eight bytes with a fault are refused, by the first of their faults.
-use Rattle.std.proofs.Common.{◌≡◌, ℕ, ◌<◌, ◌≤◌, Bool, true, false, cond, not, eqb, ltb, List, [], ◌∷◌, map, Some, None, Ok, Err, Option, refl, subst, inl, inr, ⊎_elim, arith}
-use Rattle.std.proofs.lemmas.Bool.{and_from, and_parts, both_ways, cases_lt, eqb-false, lt-ltb, ltb-true, ne_eqb, not_from_false, not-true}
+use Rattle.std.proofs.Common.{◌≡◌, ℕ, zero, suc, ◌+◌, filter, below_more, ◌<◌, ◌≤◌, Bool, true, false, cond, not, eqb, ltb, List, [], ◌∷◌, map, Some, None, Ok, Err, Option, refl, subst, inl, inr, ⊎_elim, arith}
+use Rattle.std.proofs.lemmas.Bool.{and_from, and_parts, both_ways, cases_Bool, cases_lt, eqb-false, lt-ltb, ltb-true, ne_eqb, not_from_false, not-true}
 use Rattle.std.specs.Option.{option_or}
-use Rattle.rows.proofs.Searching.{Looked, first_of_four, first_passes, look, none_passes}
+use Rattle.std.specs.List.{range_with_len}
+use Rattle.rows.proofs.Searching.{first_of_four}
 use Rattle.rows.specs.Kinds.{is_operation, is_slot, is_unused}
 use Rattle.rows.specs.Reading.{answered, byte_at, bytes_where, complaints, first, kind_complaints, no_kind, no_operation, not_listed, not_zero, operation_complaints, rest_complaints, row_from, slot_complaints, use_at}
 use Rattle.rows.specs.Refusing.{Against, FirstFault, NoLater, RowsAreRefused}
@@ -17,12 +18,16 @@ data Told (f : ℕ → RowReason) (t : ℕ → Bool) : Option RowReason → Type
   none : ((k : ℕ) → k < 8 → t k ≡ false) → Told f t None
   one : (k : ℕ) → k < 8 → ((j : ℕ) → j < k → t j ≡ false) → t k ≡ true → Told f t (Some (f k))
 
+-- from byte a on, of which there are n, where none before passes
+look : (f : ℕ → RowReason) (t : ℕ → Bool) (a n : ℕ) → a + n ≡ 8 → ((k : ℕ) → k < a → t k ≡ false) → Told f t (first (map f (filter t (range_with_len a n))))
+look f t a zero e before = none (λ k l. before k (omega arith))
+look f t a (suc n) e before =
+    ⊎_elim (λ h. rw h (one a (omega arith) before h))
+    (λ h. rw h (look f t (a + 1) n (omega arith) (below_more (λ k. t k ≡ false) a before h)))
+    (cases_Bool (t a))
+
 told : (f : ℕ → RowReason) (t : ℕ → Bool) → Told f t (first (map f (bytes_where t)))
-told f t = go (look t 8)
-  where
-    go : Looked t 8 → Told f t (first (map f (bytes_where t)))
-    go (inl all) = rw (none_passes t all) (none all)
-    go (inr found) = rw (first_passes f t found.place found.below found.before found.passes) (one found.place found.below found.before found.passes)
+told f t = look f t 0 8 refl (λ k l. absurd (omega arith))
 
 first_least : (t : ℕ → Bool) (k j : ℕ) → ((i : ℕ) → i < k → t i ≡ false) → t j ≡ true → k ≤ j
 first_least t k j before e = ⊎_elim (λ l. absurd (both_ways (t j) (before j l) e)) (λ l. l) (cases_lt j k)
@@ -109,7 +114,7 @@ refusal : {lists : ℕ → Bool} {bytes : List ℕ} (number : ℕ) (row : Row) (
     ((reason : RowReason) → Against lists bytes reason → (fault : RowFault) × (answered number row found ≡ Err fault))
     × ((fault : RowFault) → answered number row found ≡ Err fault → (fault.row ≡ number) × FirstFault lists bytes fault.reason)
 refusal number row _ (clear no_fault) =
-    (λ reason h. absurd (no_fault reason h), λ fault e. let z : ◌≡◌ {A = ℕ} 0 1 = cc in absurd (omega arith))
+    (λ reason h. absurd (no_fault reason h), λ fault e. absurd cc)
 refusal {lists} {bytes} number row _ (faulty reason h) = (
   λ other against. (record { row = number; reason = reason }, refl),
   λ fault e.
@@ -121,7 +126,7 @@ refusal {lists} {bytes} number row _ (faulty reason h) = (
 pub accepted : {lists : ℕ → Bool} {bytes : List ℕ} (number : ℕ) (row other : Row) {found : Option RowReason} → Settled lists bytes found →
     answered number row found ≡ Ok other → NoFault lists bytes × (row ≡ other)
 accepted number row other (clear no_fault) e = (no_fault, cc)
-accepted number row other (faulty reason h) e = let z : ◌≡◌ {A = ℕ} 0 1 = cc in absurd (omega arith)
+accepted number row other (faulty reason h) e = absurd cc
 
 pub rows_are_refused : RowsAreRefused
 rows_are_refused lists number bytes =

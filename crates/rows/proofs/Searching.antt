@@ -1,51 +1,24 @@
 -- The first byte of a row, in order, of which a test is true.
-use Rattle.std.proofs.Common.{◌≡◌, ℕ, zero, suc, ◌+◌, ◌<◌, Bool, true, false, ◌⊎◌, List, [], ◌∷◌, ◌++◌, map, Some, filter, refl, inl, inr, arith, below_more}
-use Rattle.std.specs.List.{range_with_len}
+use Rattle.std.proofs.Common.{◌≡◌, ℕ, Bool, true, false, ltb, Option, option_map, List, [], ◌∷◌, ◌++◌, map, Some, None, filter, refl, sym, ap, ◌∙◌, cond}
+use Rattle.std.specs.List.{find, range_with_len}
 use Rattle.std.specs.Option.{option_or}
-use Rattle.rows.specs.Reading.{bytes_where, first}
+use Rattle.rows.specs.Kinds.{kind_number}
+use Rattle.rows.specs.Reading.{byte_at, bytes_where, complaints, first, kind_complaints, operation_complaints, rest_complaints, slot_complaints}
+use Rattle.rows.specs.declared.kind.RowKind.{RowKind}
+use Rattle.rows.specs.declared.kind.RowKind.TheVariants.{Idle, PutConstant, SlotWithConstant, TwoSlots, If, Else, While, End}
 use Rattle.rows.specs.declared.fault.RowReason.{RowReason}
 
--- from byte a on, none of n passes
-none_from : (t : ℕ → Bool) (a n : ℕ) → ((k : ℕ) → k < a + n → t k ≡ false) → filter t (range_with_len a n) ≡ []
-none_from t a zero h = refl
-none_from t a (suc n) h = rw (h a (omega arith)) (none_from t (a + 1) n (λ k l. h k (omega arith)))
+first_filtered : (f : ℕ → RowReason) (t : ℕ → Bool) (xs : List ℕ) → first (map f (filter t xs)) ≡ option_map f (find t xs)
+first_filtered f t [] = refl
+first_filtered f t (x ∷ xs) =
+    elim (t x) as (λ z. first (map f (cond z (x ∷ filter t xs) (filter t xs))) ≡ option_map f (cond z (Some x) (find t xs)))
+    [ true ↦ refl | false ↦ first_filtered f t xs ]
 
-pub none_passes : (t : ℕ → Bool) → ((k : ℕ) → k < 8 → t k ≡ false) → bytes_where t ≡ []
-none_passes t h = none_from t 0 8 h
-
--- of n from byte a on, none before a + m passes, and that one does
-first_from : (f : ℕ → RowReason) (t : ℕ → Bool) (a n m : ℕ) → m < n → ((k : ℕ) → k < a + m → t k ≡ false) → t (a + m) ≡ true →
-    first (map f (filter t (range_with_len a n))) ≡ Some (f (a + m))
-first_from f t a zero m l h e = absurd (omega arith)
-first_from f t a (suc n) zero l h e = let at : a + 0 ≡ a = omega arith in let e' = rw at at e in rw (e', at)
-first_from f t a (suc n) (suc m) l h e =
-    let at : a + suc m ≡ a + 1 + m = omega arith in
-    rw (h a (omega arith), at) (first_from f t (a + 1) n m (omega arith) (λ k b. h k (omega arith)) (rw at at e))
-
-pub first_passes : (f : ℕ → RowReason) (t : ℕ → Bool) (k : ℕ) → k < 8 → ((j : ℕ) → j < k → t j ≡ false) → t k ≡ true →
-    first (map f (bytes_where t)) ≡ Some (f k)
-first_passes f t k l h e =
-    let at : 0 + k ≡ k = omega arith in
-    rw at at (first_from f t 0 8 k l (rw at h) (rw at e))
-
--- the first number below n of which a test is true
-pub record Found (t : ℕ → Bool) (n : ℕ) : Type 0 where
-  pub place : ℕ
-  pub below : place < n
-  pub before : (k : ℕ) → k < place → t k ≡ false
-  pub passes : t place ≡ true
-
-abbrev pub Looked : (ℕ → Bool) → ℕ → Type 0
-Looked t n = ((k : ℕ) → k < n → t k ≡ false) ⊎ Found t n
-
-look_further : (t : ℕ → Bool) (n : ℕ) (z : Bool) → t n ≡ z → Looked t n → Looked t (suc n)
-look_further t n z e (inr f) = inr (record { place = f.place; below = omega arith; before = f.before; passes = f.passes })
-look_further t n true e (inl none) = inr (record { place = n; below = omega arith; before = none; passes = e })
-look_further t n false e (inl none) = inl (λ k l. below_more (λ k. t k ≡ false) n none e k (omega arith))
-
-pub look : (t : ℕ → Bool) (n : ℕ) → Looked t n
-look t zero = inl (λ k l. absurd (omega arith))
-look t (suc n) = look_further t n (t n) refl (look t n)
+-- what a search through the bytes found is the first of which the test is true
+pub found_is_first : (f : ℕ → RowReason) (t : ℕ → Bool) (found : Option ℕ) → option_map (λ byte. byte) found ≡ find t (range_with_len 0 8) →
+    option_map f found ≡ first (map f (bytes_where t))
+found_is_first f t None e = ap (option_map f) e ∙ sym (first_filtered f t (range_with_len 0 8))
+found_is_first f t (Some byte) e = ap (option_map f) e ∙ sym (first_filtered f t (range_with_len 0 8))
 
 -- the first of four lists, one behind the other
 pub first_of_four : (a b c d : List RowReason) →
@@ -54,3 +27,20 @@ first_of_four (x ∷ a) b c d = refl
 first_of_four [] (x ∷ b) c d = refl
 first_of_four [] [] (x ∷ c) d = refl
 first_of_four [] [] [] d = refl
+
+kind_is_known : (kind : RowKind) (n : ℕ) → kind_number kind ≡ n → ltb 7 n ≡ false
+kind_is_known Idle n e = rw (← e) refl
+kind_is_known PutConstant n e = rw (← e) refl
+kind_is_known SlotWithConstant n e = rw (← e) refl
+kind_is_known TwoSlots n e = rw (← e) refl
+kind_is_known If n e = rw (← e) refl
+kind_is_known Else n e = rw (← e) refl
+kind_is_known While n e = rw (← e) refl
+kind_is_known End n e = rw (← e) refl
+
+-- of a known kind, and with nothing against the operation, what first speaks against the bytes is told by the slots and the rest
+pub bytes_are_left : (kind : RowKind) (lists : ℕ → Bool) (bytes : List ℕ) → kind_number kind ≡ byte_at bytes 0 → None ≡ first (operation_complaints bytes) →
+    option_or (first (slot_complaints lists bytes)) (first (rest_complaints bytes)) ≡ first (complaints lists bytes)
+bytes_are_left kind lists bytes known none =
+    let k = kind_is_known kind (byte_at bytes 0) known in
+    rw (← first_of_four (kind_complaints bytes) (operation_complaints bytes) (slot_complaints lists bytes) (rest_complaints bytes), k, ← none) refl

@@ -1,5 +1,9 @@
 -- The eight kinds of rows, and what each byte of a row is to each kind. Assumes nothing.
-use Rattle.std.specs.Prelude.{ℕ, Bool, true, false, List, [], ◌∷◌, slice_index_or}
+use Rattle.std.specs.Prelude.{◌≡◌, ℕ, ◌<◌, Bool, true, false, List, [], ◌∷◌, Result, MatchResult, slice_index_or}
+use Rattle.rows.specs.declared.fault.RowReason.{RowReason}
+use Rattle.rows.specs.declared.fault.RowReason.TheVariants as refused
+use Rattle.rows.specs.declared.kind.RowKind.{RowKind}
+use Rattle.rows.specs.declared.kind.RowKind.TheVariants.{Idle, PutConstant, SlotWithConstant, TwoSlots, If, Else, While, End}
 use Rattle.rows.specs.declared.kind.Use.{Use}
 use Rattle.rows.specs.declared.kind.Use.TheVariants.{Unused, Kind, Operation, Slot, Const}
 
@@ -15,6 +19,21 @@ kinds =
     ∷ (Kind ∷ Unused ∷ Unused ∷ Slot ∷ Unused ∷ Unused ∷ Unused ∷ Unused ∷ [])
     ∷ (Kind ∷ Unused ∷ Unused ∷ Unused ∷ Unused ∷ Unused ∷ Unused ∷ Unused ∷ [])
     ∷ []
+
+-- the place of a kind in that order, from 0
+abbrev pub kind_number : RowKind → ℕ
+kind_number Idle = 0
+kind_number PutConstant = 1
+kind_number SlotWithConstant = 2
+kind_number TwoSlots = 3
+kind_number If = 4
+kind_number Else = 5
+kind_number While = 6
+kind_number End = 7
+
+-- a number is converted to the kind that has it, and past the last kind it is refused
+abbrev pub Decodes : ℕ → Result RowKind RowReason → Type 0
+Decodes number converted = MatchResult converted (λ kind. kind_number kind ≡ number) (λ reason. (reason ≡ refused.Kind) × (7 < number))
 
 -- what a byte, by its number, is to a kind: nothing past the last kind or the last byte
 abbrev pub uses : ℕ → ℕ → Use

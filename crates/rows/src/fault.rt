@@ -1,8 +1,11 @@
 ghost use Rattle.std.specs.Prelude.{◌≡◌};
 ghost use Rattle.rows.specs.Faults.{reason_number, reason_byte};
+ghost use Rattle.rows.specs.declared.fault.RowReason.TheVariants.{Operation};
+
+use operations::UnknownOperation;
 
 /// Why a row is refused.
-#[derive(Clone, Copy)]
+#[derive(Clone, Copy, Debug, PartialEq, Eq)]
 pub enum RowReason {
     /// Its kind is none of the eight.
     Kind,
@@ -24,6 +27,7 @@ pub enum RowReason {
     WhileNotPassed,
 }
 
+// The window's lines and the C interface tell a fault by its number and byte, so these stand beside the variants.
 impl RowReason {
     /// The number by which the fault is told.
     pub fn number(self) -> u8
@@ -49,13 +53,26 @@ impl RowReason {
         match self {
             RowReason::Operation => 1,
             RowReason::NotListed { byte } | RowReason::NotZero { byte } => byte,
-            _ => 0,
+            RowReason::Kind
+            | RowReason::ElseOutOfPlace
+            | RowReason::EndOutOfPlace
+            | RowReason::TooDeep
+            | RowReason::SetNotPassed
+            | RowReason::WhileNotPassed => 0,
         }
     }
 }
 
+impl From<UnknownOperation> for RowReason {
+    ghost from_gives = { λ _ reason. reason ≡ Operation };
+
+    fn from(_unknown: UnknownOperation) -> Self {
+        Self::Operation
+    }
+}
+
 /// A row that is refused, by its number, and why.
-#[derive(Clone, Copy)]
+#[derive(Clone, Copy, Debug, PartialEq, Eq)]
 pub struct RowFault {
     pub row: u8,
     pub reason: RowReason,

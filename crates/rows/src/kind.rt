@@ -1,8 +1,23 @@
-ghost use Rattle.std.specs.Prelude.{◌≡◌};
-ghost use Rattle.rows.specs.Kinds.{uses, is_operation, is_slot, is_unused};
+ghost use Rattle.std.specs.Prelude.{◌≡◌, [], slice_index_or};
+ghost use Rattle.rows.specs.Kinds.{Decodes, kind_number, kinds};
+
+use crate::fault::RowReason;
+
+/// What a row does, as its first byte tells. It settles what the other bytes are.
+#[derive(Clone, Copy, Debug, PartialEq, Eq)]
+pub enum RowKind {
+    Idle,
+    PutConstant,
+    SlotWithConstant,
+    TwoSlots,
+    If,
+    Else,
+    While,
+    End,
+}
 
 /// What a byte of a row is to the row's kind.
-#[derive(Clone, Copy)]
+#[derive(Clone, Copy, Debug, PartialEq, Eq)]
 pub enum Use {
     /// Nothing: it has to be 0.
     Unused,
@@ -18,7 +33,28 @@ pub enum Use {
 
 use Use::{Const, Kind, Operation, Slot, Unused};
 
-/// For each kind, from 0 to 7, what each of the eight bytes is to it.
+/// The kind with a number, 0 to 7.
+impl TryFrom<u8> for RowKind {
+    type Error = RowReason;
+
+    ghost try_from_gives = { Decodes };
+
+    fn try_from(number: u8) -> Result<RowKind, RowReason> {
+        match number {
+            0 => Ok(RowKind::Idle),
+            1 => Ok(RowKind::PutConstant),
+            2 => Ok(RowKind::SlotWithConstant),
+            3 => Ok(RowKind::TwoSlots),
+            4 => Ok(RowKind::If),
+            5 => Ok(RowKind::Else),
+            6 => Ok(RowKind::While),
+            7 => Ok(RowKind::End),
+            _ => Err(RowReason::Kind),
+        }
+    }
+}
+
+/// What each of the eight bytes is to a kind, for the kinds from 0 to 7.
 const KINDS: [[Use; 8]; 8] = [
     [Kind, Unused, Unused, Unused, Unused, Unused, Unused, Unused],
     [Kind, Unused, Slot, Unused, Const, Const, Const, Const],
@@ -30,33 +66,11 @@ const KINDS: [[Use; 8]; 8] = [
     [Kind, Unused, Unused, Unused, Unused, Unused, Unused, Unused],
 ];
 
-impl Use {
-    /// What a byte, by its number, is to a kind. To a kind above 7 no byte is anything.
-    pub fn of(kind: u8, byte: u8) -> Use
-        ensures { result ≡ uses kind byte }
+impl RowKind {
+    /// What each of the eight bytes is to the kind.
+    pub fn uses(self) -> [Use; 8]
+        ensures { result ≡ slice_index_or kinds (kind_number self) [] }
     {
-        if kind < 8 && byte < 8 {
-            KINDS[kind as usize][byte as usize]
-        } else {
-            Unused
-        }
-    }
-
-    pub fn is_operation(self) -> bool
-        ensures { result ≡ is_operation self }
-    {
-        matches!(self, Operation)
-    }
-
-    pub fn is_slot(self) -> bool
-        ensures { result ≡ is_slot self }
-    {
-        matches!(self, Slot)
-    }
-
-    pub fn is_unused(self) -> bool
-        ensures { result ≡ is_unused self }
-    {
-        matches!(self, Unused)
+        KINDS[self as usize]
     }
 }

@@ -1,11 +1,14 @@
-ghost use Rattle.std.specs.Prelude.{◌≡◌};
+ghost use Rattle.std.specs.Prelude.{◌≡◌, IfOk};
+ghost use Rattle.std.specs.Result.{result_err};
 ghost use Rattle.table.specs.Slots.{listed};
-ghost use Rattle.rows.specs.Reading.{constant_at, operation_at, read_row, row_from};
+ghost use Rattle.rows.specs.Kinds.{kind_number};
+ghost use Rattle.rows.specs.Reading.{byte_at, complaints, constant_at, first, operation_complaints, read_row, row_from};
 ghost use Rattle.rows.specs.Refusing.{RowsAreRefused};
 ghost use Rattle.rows.specs.Writing.{RowsAreRead};
 
-use crate::complaint::first_complaint;
-use crate::fault::RowFault;
+use crate::complaint::check_bytes;
+use crate::fault::{RowFault, RowReason};
+use crate::kind::RowKind;
 use crate::row::Row;
 use operations::Operation;
 use table::Table;
@@ -14,46 +17,48 @@ use table::Table;
 pub fn read_row(bytes: [u8; 8], row: u8, table: &Table) -> Result<Row, RowFault>
     ensures { result ≡ read_row (listed table.now.slots) row bytes }
 {
-    match first_complaint(bytes, table) {
-        Some(reason) => Err(RowFault { row, reason }),
-        None => Ok(row_from(bytes)),
-    }
+    row_from(bytes, table).map_err(|reason| RowFault { row, reason })
 }
 
-/// The row that the bytes stand for, if nothing speaks against them.
-fn row_from(bytes: [u8; 8]) -> Row
-    ensures { result ≡ row_from bytes }
+/// The row that the bytes stand for, or what first speaks against them: the kind, the operation, a slot, an unused byte.
+fn row_from(bytes: [u8; 8], table: &Table) -> Result<Row, RowReason>
+    ensures read { IfOk result (λ row. row ≡ row_from bytes) }
+    ensures refused { result_err result ≡ first (complaints (listed table.now.slots) bytes) }
 {
-    let operation = operation_at(bytes);
+    let kind = RowKind::try_from(bytes[0])?;
+    let row = row_of_kind(kind, bytes)?;
+    check_bytes(kind, bytes, table)?;
+    Ok(row)
+}
+
+/// The row of a kind, as the bytes give its parts. Slots are not looked at, an operation has to be one of the eight.
+fn row_of_kind(kind: RowKind, bytes: [u8; 8]) -> Result<Row, RowReason>
+    requires { kind_number kind ≡ byte_at bytes 0 }
+    ensures read { IfOk result (λ row. row ≡ row_from bytes) }
+    ensures refused { result_err result ≡ first (operation_complaints bytes) }
+{
     let constant = constant_at(bytes);
-    let [kind, _, target, slot, .., second] = bytes;
-    match kind {
-        1 => Row::PutConstant { target, constant },
-        2 => Row::SlotWithConstant {
-            operation,
+    let [_, operation, target, slot, .., second] = bytes;
+    Ok(match kind {
+        RowKind::Idle => Row::Idle,
+        RowKind::PutConstant => Row::PutConstant { target, constant },
+        RowKind::SlotWithConstant => Row::SlotWithConstant {
+            operation: Operation::try_from(operation)?,
             target,
             first: slot,
             constant,
         },
-        3 => Row::TwoSlots {
-            operation,
+        RowKind::TwoSlots => Row::TwoSlots {
+            operation: Operation::try_from(operation)?,
             target,
             first: slot,
             second,
         },
-        4 => Row::If { guard: slot },
-        5 => Row::Else,
-        6 => Row::While { guard: slot },
-        7 => Row::End,
-        // kind 0: the kinds above 7 have been refused
-        _ => Row::Idle,
-    }
-}
-
-fn operation_at(bytes: [u8; 8]) -> Operation
-    ensures { result ≡ operation_at bytes }
-{
-    Operation::numbered(bytes[1]).unwrap_or(Operation::Sum)
+        RowKind::If => Row::If { guard: slot },
+        RowKind::Else => Row::Else,
+        RowKind::While => Row::While { guard: slot },
+        RowKind::End => Row::End,
+    })
 }
 
 fn constant_at(bytes: [u8; 8]) -> i32

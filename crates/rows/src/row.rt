@@ -1,9 +1,10 @@
 use operations::Operation;
 
 /// A row of a sheet. Slots are given by number, a guard is a slot that is looked at.
-#[derive(Clone, Copy)]
+#[derive(Clone, Copy, Debug, Default, PartialEq, Eq)]
 pub enum Row {
     /// Does nothing.
+    #[default]
     Idle,
     /// Puts a constant into the target.
     PutConstant {

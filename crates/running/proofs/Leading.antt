@@ -1,6 +1,6 @@
 -- Jumps that lead each row to its partner link every block that the rows list. Assumes nothing.
-use Rattle.std.proofs.Common.{◌≡◌, ℕ, zero, suc, ◌+◌, ◌<◌, ◌≤◌, true, List, [], ◌∷◌, ◌++◌, length, get_or, take, drop, sym, refl, ap, ◌∙◌, append_assoc, zero-add, arith, length-append, length-drop, length-take}
-use Rattle.std.proofs.lemmas.List.{append-nil, drop_more, drop-drop, drop_at, get_or-take}
+use Rattle.std.proofs.Common.{◌≡◌, ℕ, zero, suc, ◌+◌, ◌<◌, ◌≤◌, true, List, [], ◌∷◌, ◌++◌, length, get_or, drop, sym, refl, ap, ◌∙◌, append_assoc, zero-add, arith, length-append, length-drop}
+use Rattle.std.proofs.lemmas.List.{append-nil, drop_more, drop-drop, drop_at}
 use Rattle.std.proofs.lemmas.Bool.{and_parts}
 use Rattle.rows.specs.declared.row.Row.{Row}
 use Rattle.rows.specs.declared.row.Row.TheVariants.{Idle, If, Else, While, End}
@@ -46,32 +46,27 @@ each_within [] i h lt = absurd (omega arith)
 each_within (r ∷ rows) zero h lt = (and_parts (in_range (slots_of r)) (all_within rows) h).0
 each_within (r ∷ rows) (suc i) h lt = each_within rows i (and_parts (in_range (slots_of r)) (all_within rows) h).1 (omega arith)
 
--- of all the rows the first n are meant, and the slots that they name are in the table
-module _ (all : List Row) (n : ℕ) (few : n ≤ 256) (bounded : all_within (take n all) ≡ true) (jumps : List ℕ) (leads : Leads (take n all) jumps) where
-  abbrev rows : List Row
-  rows = take n all
-
+-- the slots that the rows name are in the table
+module _ (rows : List Row) (few : length rows ≤ 256) (bounded : all_within rows ≡ true) (jumps : List ℕ) (leads : Leads rows jumps) where
   -- what stands at i, where it leads, and what stands after it
   record Next (i : ℕ) (r : Row) (rest : List Row) : Type 0 where
-    here : At all i r
+    here : At rows i r
     leads_to : get_or jumps i 0 ≡ partner r i rest
     after : drop (i + 1) rows ≡ rest
 
   next : (i : ℕ) (r : Row) (rest : List Row) → drop i rows ≡ r ∷ rest → Next i r rest
   next i r rest e =
       let within_rows : i < length rows = omega (arith, length-drop i rows, ap length e) in
-      let below : i < n = omega (arith, length-take n all) in
       let more : drop i rows ≡ get_or rows i Idle ∷ drop (i + 1) rows = drop_more rows i Idle within_rows in
       let first : get_or rows i Idle ≡ r = cc in
       let rest_is : drop (i + 1) rows ≡ rest = cc in
-      let is : get_or all i Idle ≡ r = sym (get_or-take n all i Idle below) ∙ first in
       record {
-        here = record { below = omega arith; is = is; in_table = sym (ap (λ (x : Row). in_range (slots_of x)) first) ∙ each_within rows i bounded within_rows };
+        here = record { below = omega arith; stands = within_rows; is = first; in_table = sym (ap (λ (x : Row). in_range (slots_of x)) first) ∙ each_within rows i bounded within_rows };
         leads_to = leads i within_rows ∙ (ap (λ (x : Row). partner x i (drop (i + 1) rows)) first ∙ ap (λ (xs : List Row). partner r i xs) rest_is);
         after = rest_is;
       }
 
-  linked : (b : Block) (i j : ℕ) (rs : List Row) → drop i rows ≡ listing b ++ rs → j ≡ i + length (listing b) → Linked all jumps i b j
+  linked : (b : Block) (i j : ℕ) (rs : List Row) → drop i rows ≡ listing b ++ rs → j ≡ i + length (listing b) → Linked rows jumps i b j
   linked nil i j rs e j-is = omega (arith, j-is)
   linked (simple s rest) i j rs e j-is =
       let m = next i (simple_row s) (listing rest ++ rs) e in
@@ -115,5 +110,5 @@ module _ (all : List Row) (n : ℕ) (few : n ≤ 256) (bounded : all_within (tak
       )
 
   -- every block that the rows list stands there
-  pub whole : (b : Block) → listing b ≡ rows → Linked all jumps 0 b (length rows)
+  pub whole : (b : Block) → listing b ≡ rows → Linked rows jumps 0 b (length rows)
   whole b e = linked b 0 (length rows) [] (sym e ∙ sym (append-nil (listing b))) (omega (arith, ap length e))

@@ -52,7 +52,7 @@ module _ (rows : List Row) (jumps : List ℕ) where
       some i (while g a rest) j (omega (arith, (spans (i + 1) a end h.1).le, (spans (end + 1) rest j h.3).le))
 
   here : (i : ℕ) (r : Row) → At rows i r → At rows i (get_or rows i Idle)
-  here i r h = record { below = h.below; is = refl; in_table = ap (λ (r : Row). in_range (slots_of r)) h.is ∙ h.in_table }
+  here i r h = record { below = h.below; stands = h.stands; is = refl; in_table = ap (λ (r : Row). in_range (slots_of r)) h.is ∙ h.in_table }
 
   -- a block that is not empty begins at a row
   pub begins : (i : ℕ) (b : Block) (j : ℕ) → Linked rows jumps i b j → i < j → At rows i (get_or rows i Idle)

@@ -19,8 +19,8 @@ not_zero v h e = let z : ◌≡◌ {A = ℕ} 0 1 = cc (h, ap is_nonzero e) in ab
 
 is_zero : (v : ℤ) → is_nonzero v ≡ false → v ≡ pos 0
 is_zero (pos zero) h = refl
-is_zero (pos (suc n)) h = let z : ◌≡◌ {A = ℕ} 0 1 = cc in absurd (omega arith)
-is_zero (negsuc n) h = let z : ◌≡◌ {A = ℕ} 0 1 = cc in absurd (omega arith)
+is_zero (pos (suc n)) h = cc
+is_zero (negsuc n) h = cc
 
 -- From the rules to what running gives.
 followed : (p : Outcome) (f : List Slot → ℕ → Outcome) (m : List Slot) (u : ℕ) (o : Outcome) → p ≡ done m u → f m u ≡ o → and_then p f ≡ o

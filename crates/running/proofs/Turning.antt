@@ -1,9 +1,8 @@
 -- A loop's bound does not run out, and blocks in sequence run in order. Assumes nothing.
-use Rattle.std.proofs.Common.{◌≡◌, ℕ, zero, suc, ◌-◌, ◌<◌, ◌≤◌, Bool, true, false, cond, List, ◌∷◌, ◌++◌, sym, refl, ap, ◌∙◌, append_assoc, le_refl, arith}
+use Rattle.std.proofs.Common.{◌≡◌, ℕ, zero, suc, ◌-◌, ◌<◌, ◌≤◌, Bool, true, false, cond, List, sym, refl, ap, ◌∙◌, le_refl, arith}
 use Rattle.table.specs.declared.table.Slot.{Slot}
-use Rattle.rows.specs.declared.row.Row.{Row}
-use Rattle.rows.specs.declared.row.Row.TheVariants.{If, Else, While, End}
-use Rattle.sheets.specs.Programs.{Block, nil, simple, when, either, while, simple_row, listing, ◌⨾◌}
+use Rattle.sheets.specs.Programs.{Block, nil, simple, when, either, while, ◌⨾◌}
+use Rattle.sheets.proofs.Walks.{listing_then}
 use Rattle.running.specs.Running.{Outcome, done, cut, do_simple, holds, and_then, take_turn, rounds, exec}
 use Rattle.running.specs.Laws.{Kept, LoopsUnfold, SequencesRunInOrder}
 use Rattle.running.proofs.Keeping.{EndsSo, kept}
@@ -89,21 +88,5 @@ in_order (when g a rest) b s t = sequel (cond (holds g s) (exec a s t) (done s t
 in_order (either g a c rest) b s t = sequel (cond (holds g s) (exec a s t) (exec c s t)) rest b (in_order rest b)
 in_order (while g a rest) b s t = sequel (rounds t g (exec a) s t) rest b (in_order rest b)
 
--- what stands after a closed block stays after it
-closed : (xs : List Row) (r : Row) (ys zs all : List Row) → all ≡ ys ++ zs → xs ++ (r ∷ all) ≡ (xs ++ (r ∷ ys)) ++ zs
-closed xs r ys zs all e = ap (λ (l : List Row). xs ++ (r ∷ l)) e ∙ sym (append_assoc xs (r ∷ ys) zs)
-
-in_rows : (a b : Block) → listing (a ⨾ b) ≡ listing a ++ listing b
-in_rows nil b = refl
-in_rows (simple x rest) b = ap (λ (l : List Row). simple_row x ∷ l) (in_rows rest b)
-in_rows (when g a rest) b =
-    ap (λ (l : List Row). If g ∷ l) (closed (listing a) End (listing rest) (listing b) (listing (rest ⨾ b)) (in_rows rest b))
-in_rows (either g a c rest) b =
-    ap (λ (l : List Row). If g ∷ l)
-    (closed (listing a) Else (listing c ++ (End ∷ listing rest)) (listing b) (listing c ++ (End ∷ listing (rest ⨾ b)))
-    (closed (listing c) End (listing rest) (listing b) (listing (rest ⨾ b)) (in_rows rest b)))
-in_rows (while g a rest) b =
-    ap (λ (l : List Row). While g ∷ l) (closed (listing a) End (listing rest) (listing b) (listing (rest ⨾ b)) (in_rows rest b))
-
 pub sequences_run_in_order : SequencesRunInOrder
-sequences_run_in_order a b = record { lists = in_rows a b; runs = in_order a b }
+sequences_run_in_order a b = record { lists = listing_then a b; runs = in_order a b }

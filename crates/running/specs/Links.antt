@@ -1,6 +1,6 @@
 -- The inner contracts of the runner: where a block stands among the rows, with the jumps at its rows right, and what the
 -- two runners answer of it. They are no part of what running means, which is said in Running. Assumes nothing.
-use Rattle.std.specs.Prelude.{◌≡◌, ℕ, ◌+◌, ◌<◌, min, Bool, true, false, cond, List, Ok, Err, Result, slice_index, slice_index_or}
+use Rattle.std.specs.Prelude.{◌≡◌, ℕ, ◌+◌, ◌<◌, min, Bool, true, false, cond, List, length, Ok, Err, Result, slice_index, slice_index_or}
 use Rattle.table.specs.declared.table.Slot.{Slot}
 use Rattle.rows.specs.declared.row.Row.{Row}
 use Rattle.rows.specs.declared.row.Row.TheVariants.{Idle, PutConstant, SlotWithConstant, TwoSlots, If, Else, While, End}
@@ -20,9 +20,10 @@ simple_of Else = skip
 simple_of (While guard) = skip
 simple_of End = skip
 
--- the row r stands at i
+-- the row r stands at i, among the first 256
 pub record At (rows : List Row) (i : ℕ) (r : Row) : Type 0 where
   pub below : i < 256
+  pub stands : i < length rows
   pub is : slice_index_or rows i Idle ≡ r
   pub in_table : in_range (slots_of r) ≡ true
 

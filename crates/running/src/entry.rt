@@ -1,5 +1,6 @@
 // The public call: a sheet is run, and a cut run leaves the table as it was.
-ghost use Rattle.std.specs.Prelude.{◌≡◌, ℕ, ◌≤◌, take, Ok, Result};
+ghost use Rattle.std.specs.Prelude.{◌≡◌, ℕ, ◌≤◌, Ok, Result};
+ghost use Rattle.sheets.specs.Contents.{rows_of};
 ghost use Rattle.running.specs.Entry.{Run, ran};
 ghost use Rattle.running.specs.Links.{outcome};
 
@@ -8,19 +9,17 @@ use sheets::Sheet;
 use table::{Slot, Table};
 
 /// A run that was cut: a loop's guard held and none of the turns given was left.
-#[derive(Clone, Copy)]
+#[derive(Clone, Copy, Debug, PartialEq, Eq)]
 pub struct Cut {
     pub turns: u16,
 }
 
 /// Runs a sheet with at most so many turns. Answers how many were taken; a run that is cut puts every slot back.
 pub fn run(sheet: &Sheet, table: &mut Table, turns: u16) -> Result<u16, Cut>
-    ensures { Run (take sheet.now.count sheet.now.rows) table.old turns result table.new }
+    ensures { Run (rows_of sheet.now) table.old turns result table.new }
 {
     let before = table.slots;
-    // the rows that were read stand first
-    let rows = &sheet.rows[0..sheet.count];
-    let ended = run_block(sheet, table, 0, rows.len(), turns);
+    let ended = run_block(sheet, table, 0, sheet.rows.len(), turns);
     settle(table, before, turns, ended)
 }
 
@@ -36,7 +35,7 @@ fn settle(
 {
     match ended {
         Ok(left) => Ok(turns - left),
-        Err(_) => {
+        Err(OutOfTurns) => {
             table.slots = before;
             Err(Cut { turns })
         }

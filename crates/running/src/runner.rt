@@ -1,6 +1,7 @@
 // The block runner and the row runner, which call each other. Where a block ends is read from the sheet's jumps.
 ghost use Rattle.std.specs.Prelude.{◌≡◌, ℕ, ◌<◌, slice_index_or};
 ghost use Rattle.rows.specs.declared.row.Row.TheVariants.{Idle};
+ghost use Rattle.sheets.specs.Contents.{rows_of};
 ghost use Rattle.sheets.specs.Programs.{Block};
 ghost use Rattle.running.specs.Running.{exec};
 ghost use Rattle.running.specs.Links.{At, Linked, Stood, Begun, RowRan, branch_rows, outcome};
@@ -11,7 +12,7 @@ use sheets::Sheet;
 use table::Table;
 
 // A loop's guard holds and no turn is left.
-#[derive(Clone, Copy)]
+#[derive(Clone, Copy, Debug, PartialEq, Eq)]
 pub(crate) struct OutOfTurns;
 
 // Runs the rows from `from` up to `to`, where some block stands. Answers the turns left.
@@ -23,16 +24,15 @@ pub(crate) fn run_block(
     to: usize,
     turns: u16,
 ) -> Result<u16, OutOfTurns>
-    requires { Stood sheet.now.rows sheet.now.jumps from to }
-    ensures ran { (b : Block) → Linked sheet.now.rows sheet.now.jumps from b to → outcome result table.new.slots ≡ exec b table.old.slots turns }
+    requires { Stood (rows_of sheet.now) sheet.now.jumps from to }
+    ensures ran { (b : Block) → Linked (rows_of sheet.now) sheet.now.jumps from b to → outcome result table.new.slots ≡ exec b table.old.slots turns }
     ensures people { table.new.people ≡ table.old.people }
 {
     let mut at = from;
     let mut left = turns;
+    // No range to go through: each row says which one is next.
     while at < to {
-        let (next, rest) = run_row(sheet, table, at, left)?;
-        at = next;
-        left = rest;
+        (at, left) = run_row(sheet, table, at, left)?;
     }
     Ok(left)
 }
@@ -45,9 +45,9 @@ fn run_row(
     at: usize,
     turns: u16,
 ) -> Result<(usize, u16), OutOfTurns>
-    requires here { At sheet.now.rows at (slice_index_or sheet.now.rows at Idle) }
-    requires begun { Begun sheet.now.rows sheet.now.jumps at }
-    ensures ran { (b : Block) (to : ℕ) → Linked sheet.now.rows sheet.now.jumps at b to → at < to → RowRan sheet.now.rows sheet.now.jumps at b to table.old.slots turns result table.new.slots }
+    requires here { At (rows_of sheet.now) at (slice_index_or (rows_of sheet.now) at Idle) }
+    requires begun { Begun (rows_of sheet.now) sheet.now.jumps at }
+    ensures ran { (b : Block) (to : ℕ) → Linked (rows_of sheet.now) sheet.now.jumps at b to → at < to → RowRan (rows_of sheet.now) sheet.now.jumps at b to table.old.slots turns result table.new.slots }
     ensures people { table.new.people ≡ table.old.people }
 {
     let row = sheet.rows[at];

@@ -5,10 +5,15 @@ const LAST: u64 = u64::MAX;
 
 #[test]
 fn sizes_out_of_range_are_refused_with_7(rt: HostRuntime) {
-    assert!(rt; Ladder::new(0).is_err() && Ladder::new(257).is_err());
-    assert!(rt; Topics::new(0).is_err() && Topics::new(65).is_err());
-    assert!(rt; House::new(0).is_err() && House::new(9).is_err());
-    assert!(rt; Ladder::new(LAST).is_err());
+    for levels in [0, 257, LAST] {
+        assert_eq!(rt; Ladder::new(levels), Err(SchemeFault::Size));
+    }
+    for topics in [0, 65] {
+        assert_eq!(rt; Topics::new(topics), Err(SchemeFault::Size));
+    }
+    for principals in [0, 9] {
+        assert_eq!(rt; House::new(principals), Err(SchemeFault::Size));
+    }
     assert_eq!(rt; SchemeFault::Size.number(), 7);
 }
 

@@ -51,22 +51,22 @@ begun rows b =
     go (Ok st) e h = (st, e)
     go (Err f) e h = let z : ◌≡◌ {A = ℕ} 0 1 = cc in absurd (omega arith)
 
+-- what is walked is not refused
+never_refused : {A : Type 0} (st : List Open) (f : RowFault) → Ok st ≡ Err f → A
+never_refused st f e = let z : ◌≡◌ {A = ℕ} 0 1 = cc in absurd (omega arith)
+
 -- a row that the walk refuses goes on to none
 pub begins_not : (rows : List Row) (r : Row) (st : List Open) (f : RowFault) → walk 0 rows [] ≡ Ok st → entered r (length rows) st ≡ Err f → Begins (rows ++ (r ∷ [])) → ⊥
 begins_not rows r st f e bad b =
     let w = begun (rows ++ (r ∷ [])) b in
     let both : Ok w.0 ≡ Err f = sym w.1 ∙ (walk_push rows r st e ∙ bad) in
-    let z : ◌≡◌ {A = ℕ} 0 1 = cc in
-    omega arith
+    never_refused w.0 f both
 
 -- which rows the walk refuses, and why
 refused_so : (r : Row) (i : ℕ) (why : RowReason) (f : RowFault) → Misplaced r why → refused {A = List Open} i why ≡ Err f → (f.row ≡ i) × Misplaced r f.reason
 refused_so r i why f m e =
     let is : record { row = i; reason = why } ≡ f = cc in
     subst (λ (x : RowFault). (x.row ≡ i) × Misplaced r x.reason) is (refl, m)
-
-never_refused : {A : Type 0} (st : List Open) (f : RowFault) → Ok st ≡ Err f → A
-never_refused st f e = let z : ◌≡◌ {A = ℕ} 0 1 = cc in absurd (omega arith)
 
 opened_not : (r : Row) (o : Open) (i : ℕ) (st : List Open) (f : RowFault) (c : Bool) → Misplaced r TooDeep → cond c (Ok (o ∷ st)) (refused i TooDeep) ≡ Err f → (f.row ≡ i) × Misplaced r f.reason
 opened_not r o i st f true m e = never_refused (o ∷ st) f e
@@ -114,7 +114,7 @@ open_latest rows o st e = latest_of rows o st (subst (λ (s : Result (List Open)
 -- a block that was opened is the latest
 opened_on : (o : Open) (i : ℕ) (st next : List Open) (f : List Open → Result (List Open) RowFault) (c : Bool) → and_then (cond c (Ok (o ∷ st)) (refused i TooDeep)) f ≡ Ok next → f (o ∷ st) ≡ Ok next
 opened_on o i st next f true e = e
-opened_on o i st next f false e = let z : ◌≡◌ {A = ℕ} 0 1 = cc in absurd (omega arith)
+opened_on o i st next f false e = cc
 
 -- a walk passes over a block and leaves open what was open
 abbrev Passes : Block → Type 0

@@ -1,5 +1,5 @@
 -- A slot that is listed is one of the 64. Assumes nothing.
-use Rattle.std.proofs.Common.{◌≡◌, ℕ, zero, suc, ◌<◌, Bool, true, false, ◌&&◌, ltb, List, [], ◌∷◌, length, get_or, IfOk, Ok, Err, Result, sym, refl, ap₂, arith, ltb-true, lt-ltb}
+use Rattle.std.proofs.Common.{◌≡◌, ℕ, zero, suc, ◌<◌, Bool, true, ◌&&◌, List, [], ◌∷◌, length, IfOk, Ok, Err, Result, sym, refl, ap₂, arith, lt-ltb}
 use Rattle.std.specs.List.{AllByRecursion}
 use Rattle.table.specs.Slots.{listed}
 use Rattle.table.specs.declared.table.Slot.{Slot}
@@ -8,8 +8,7 @@ use Rattle.rows.specs.Reading.{read_row}
 use Rattle.rows.specs.Writing.{slots_of}
 use Rattle.rows.specs.declared.fault.RowFault.{RowFault}
 use Rattle.rows.specs.declared.row.Row.{Row}
-use Rattle.rows.specs.declared.row.Row.TheVariants.{Idle}
-use Rattle.sheets.specs.Reading.{in_range, all_within}
+use Rattle.sheets.specs.Reading.{in_range}
 
 listed_below : (slots : List Slot) (k : ℕ) → listed slots k ≡ true → k < length slots
 listed_below [] k e = let z : ◌≡◌ {A = ℕ} 0 1 = cc in absurd (omega arith)
@@ -26,18 +25,3 @@ pub read_in_range : (slots : List Slot) (i : ℕ) (bytes : List ℕ) → length 
 read_in_range slots i bytes long eight small (Err f) e = tt
 read_in_range slots i bytes long eight small (Ok r) e =
     listed_in_range slots (slots_of r) long ((rows_are_read (listed slots) i bytes r eight small).only_written (sym e)).listed_slots
-
-pub both : (a b : Bool) → a && b ≡ true → (a ≡ true) × (b ≡ true)
-both true b e = (refl, e)
-both false b e = let z : ◌≡◌ {A = ℕ} 0 1 = cc in absurd (omega arith)
-
--- each of the slots is below 64
-pub each_below : (ks : List ℕ) → in_range ks ≡ true → AllByRecursion (λ k. k < 64) ks
-each_below [] e = tt
-each_below (k ∷ ks) e = let p = both (ltb k 64) (in_range ks) e in (ltb-true k 64 p.0, each_below ks p.1)
-
--- each slot that row i names is below 64
-pub slots_below : (rows : List Row) (i : ℕ) → all_within rows ≡ true → i < length rows → AllByRecursion (λ k. k < 64) (slots_of (get_or rows i Idle))
-slots_below [] i e h = absurd (omega (arith, h))
-slots_below (r ∷ rows) zero e h = each_below (slots_of r) (both (in_range (slots_of r)) (all_within rows) e).0
-slots_below (r ∷ rows) (suc i) e h = slots_below rows i (both (in_range (slots_of r)) (all_within rows) e).1 (omega (arith, h))

@@ -1,5 +1,6 @@
 -- Bytes are read as rows exactly if they write them, and refused exactly for their first fault. Assumes nothing.
 use Rattle.std.proofs.Common.{◌≡◌, ℕ, suc, ◌+◌, ◌-◌, ◌*◌, ◌/◌, ◌%◌, ◌≤◌, Bool, true, false, cond, ◌&&◌, eqb, leb, List, [], ◌∷◌, ◌++◌, length, drop, Ok, Err, Result, sym, refl, ap, ◌∙◌, subst, ap₂, inl, inr, append_assoc, add-zero, zero-add, arith, length-append, eq-eqb, eqb-true, le-leb, leb-true}
+use Rattle.std.proofs.lemmas.Bool.{and_parts}
 use Rattle.std.proofs.lemmas.List.{append-nil, take_at, drop_at}
 use Rattle.std.specs.List.{flat_map}
 use Rattle.rows.proofs.Acceptance.{rows_are_read}
@@ -21,14 +22,13 @@ use Rattle.sheets.specs.declared.fault.SheetFault.TheVariants as fault
 use Rattle.sheets.specs.declared.walker.Open.{Open}
 use Rattle.sheets.proofs.Assembling.{onto, onto_ok, onto_err}
 use Rattle.sheets.proofs.Beginnings.{both_done, begins, begun, begins_not, entered_not, one_reason, open_latest, latest_opened}
-use Rattle.sheets.proofs.Bounds.{both}
 use Rattle.sheets.proofs.Telling.{Why, faulted, blocked, Told, told, Bytes}
 use Rattle.sheets.proofs.Walks.{walk_push, listed, exact, accepted_walk}
 
 -- the number of rows
 lawful_both : (n : ℕ) → lawful_length n ≡ true → (n ≤ 2048) × (n % 8 ≡ 0)
 lawful_both n e =
-    let p = both (leb n 2048) (eqb (n % 8) 0) e in
+    let p = and_parts (leb n 2048) (eqb (n % 8) 0) e in
     (leb-true n 2048 p.0, eqb-true (n % 8) 0 p.1)
 
 both_lawful : (n : ℕ) → n ≤ 2048 → n % 8 ≡ 0 → lawful_length n ≡ true

@@ -1,7 +1,7 @@
 -- What the answer of reading says of the bytes: which rows they write, and where the reading stopped. Assumes nothing.
 use Rattle.std.proofs.Common.{◌≡◌, ℕ, zero, suc, ◌+◌, ◌*◌, ◌<◌, ◌≤◌, Bool, List, [], ◌∷◌, ◌++◌, length, take, drop, Ok, Err, Result, sym, refl, ap, ◌∙◌, append_assoc, add-zero, arith, length-drop}
 use Rattle.std.proofs.ByRecursion.{All-take, All-drop}
-use Rattle.std.proofs.lemmas.List.{length-take-le}
+use Rattle.std.proofs.lemmas.List.{length-take-le, take-append-drop}
 use Rattle.std.specs.List.{flat_map, AllByRecursion}
 use Rattle.rows.proofs.Acceptance.{rows_are_read}
 use Rattle.rows.proofs.Refusals.{rows_are_refused}
@@ -62,11 +62,6 @@ Told lists n i bytes st (Err fault.Length) = ⊥
 Told lists n i bytes st (Err (fault.Row f)) = Stopped lists i bytes st f
 Told lists n i bytes st (Err (fault.StillOpen k)) = EndedOpen lists n i bytes st k
 
-cut_at : (n : ℕ) (xs : List ℕ) → xs ≡ take n xs ++ drop n xs
-cut_at zero xs = refl
-cut_at (suc n) [] = refl
-cut_at (suc n) (x ∷ xs) = ap (λ (ys : List ℕ). x ∷ ys) (cut_at n xs)
-
 module _ (lists : ℕ → Bool) where
   none_left : (bytes : List ℕ) (i : ℕ) (st : List Open) → length bytes ≡ 0 → Told lists 0 i bytes st (at_end [] st)
   none_left [] i [] e = record { many = refl; written = refl; lawful = tt; walked = refl }
@@ -77,7 +72,7 @@ module _ (lists : ℕ → Bool) where
   -- a first row before the rest
   module _ (r : Row) (n i : ℕ) (bytes : List ℕ) (st next : List Open) (w : Writes lists (take 8 bytes) r) (good : entered r i st ≡ Ok next) where
     first_is : bytes ≡ bytes_of r ++ drop 8 bytes
-    first_is = cut_at 8 bytes ∙ ap (λ (xs : List ℕ). xs ++ drop 8 bytes) w.written
+    first_is = sym (take-append-drop 8 bytes) ∙ ap (λ (xs : List ℕ). xs ++ drop 8 bytes) w.written
 
     first_lawful : Writes lists (bytes_of r) r
     first_lawful = record { written = refl; listed_slots = w.listed_slots; values = w.values }
@@ -126,7 +121,7 @@ module _ (lists : ℕ → Bool) where
         eight = take 8 bytes;
         after = drop 8 bytes;
         next = st;
-        written = cut_at 8 bytes;
+        written = sym (take-append-drop 8 bytes);
         whole = length-take-le 8 bytes long;
         lawful = tt;
         walked = refl;

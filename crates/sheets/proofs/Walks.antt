@@ -1,7 +1,7 @@
 -- The walk accepts the listings of blocks with at most 16 blocks open at once, and no other rows. Assumes nothing.
 use Rattle.std.proofs.Common.{◌≡◌, ℕ, suc, ◌+◌, ◌<◌, ◌≤◌, max, Bool, true, false, cond, ltb, List, [], ◌∷◌, ◌++◌, length, Ok, Err, Result, sym, refl, ap, ◌∙◌, subst, append_assoc, add-zero, zero-add, arith, length-append, ltb-true, lt-ltb}
 use Rattle.std.proofs.lemmas.List.{append-nil}
-use Rattle.sheets.specs.Programs.{Block, nil, simple, when, either, while, Simple, skip, assign, constant, with_constant, two_slots, simple_row, listing, nesting}
+use Rattle.sheets.specs.Programs.{Block, nil, simple, when, either, while, Simple, skip, assign, constant, with_constant, two_slots, simple_row, listing, nesting, ◌⨾◌}
 use Rattle.sheets.specs.Walk.{refused, opened, entered, and_then, walk, accepts, Program, Exact}
 use Rattle.sheets.specs.declared.walker.Open.{Open}
 use Rattle.sheets.specs.declared.walker.Open.TheVariants.{InThen, InElse, InLoop}
@@ -67,33 +67,26 @@ walk_listing (while g a rest) i st h =
     ∙ walk_listing rest (i + 1 + length (listing a) + 1) st (omega (arith, h)))
 
 -- one block after another
-abbrev pub follow : Block → Block → Block
-follow nil c = c
-follow (simple s rest) c = simple s (follow rest c)
-follow (when g a rest) c = when g a (follow rest c)
-follow (either g a b rest) c = either g a b (follow rest c)
-follow (while g a rest) c = while g a (follow rest c)
-
-pub listing_follow : (b c : Block) → listing (follow b c) ≡ listing b ++ listing c
-listing_follow nil c = refl
-listing_follow (simple s rest) c = ap (λ (xs : List Row). simple_row s ∷ xs) (listing_follow rest c)
-listing_follow (when g a rest) c =
-    ap (λ (xs : List Row). If g ∷ (listing a ++ (End ∷ xs))) (listing_follow rest c)
+pub listing_then : (b c : Block) → listing (b ⨾ c) ≡ listing b ++ listing c
+listing_then nil c = refl
+listing_then (simple s rest) c = ap (λ (xs : List Row). simple_row s ∷ xs) (listing_then rest c)
+listing_then (when g a rest) c =
+    ap (λ (xs : List Row). If g ∷ (listing a ++ (End ∷ xs))) (listing_then rest c)
     ∙ ap (λ (xs : List Row). If g ∷ xs) (sym (append_assoc (listing a) (End ∷ listing rest) (listing c)))
-listing_follow (either g a b rest) c =
-    ap (λ (xs : List Row). If g ∷ (listing a ++ (Else ∷ (listing b ++ (End ∷ xs))))) (listing_follow rest c)
+listing_then (either g a b rest) c =
+    ap (λ (xs : List Row). If g ∷ (listing a ++ (Else ∷ (listing b ++ (End ∷ xs))))) (listing_then rest c)
     ∙ (ap (λ (xs : List Row). If g ∷ (listing a ++ (Else ∷ xs))) (sym (append_assoc (listing b) (End ∷ listing rest) (listing c)))
     ∙ ap (λ (xs : List Row). If g ∷ xs) (sym (append_assoc (listing a) (Else ∷ (listing b ++ (End ∷ listing rest))) (listing c))))
-listing_follow (while g a rest) c =
-    ap (λ (xs : List Row). While g ∷ (listing a ++ (End ∷ xs))) (listing_follow rest c)
+listing_then (while g a rest) c =
+    ap (λ (xs : List Row). While g ∷ (listing a ++ (End ∷ xs))) (listing_then rest c)
     ∙ ap (λ (xs : List Row). While g ∷ xs) (sym (append_assoc (listing a) (End ∷ listing rest) (listing c)))
 
-nesting_follow : (b c : Block) → nesting (follow b c) ≡ max (nesting b) (nesting c)
-nesting_follow nil c = omega arith
-nesting_follow (simple s rest) c = nesting_follow rest c
-nesting_follow (when g a rest) c = omega (arith, nesting_follow rest c)
-nesting_follow (either g a b rest) c = omega (arith, nesting_follow rest c)
-nesting_follow (while g a rest) c = omega (arith, nesting_follow rest c)
+nesting_then : (b c : Block) → nesting (b ⨾ c) ≡ max (nesting b) (nesting c)
+nesting_then nil c = omega arith
+nesting_then (simple s rest) c = nesting_then rest c
+nesting_then (when g a rest) c = omega (arith, nesting_then rest c)
+nesting_then (either g a b rest) c = omega (arith, nesting_then rest c)
+nesting_then (while g a rest) c = omega (arith, nesting_then rest c)
 
 -- Rows that end inside a block that row k opened: `below` holds of the rows before it, and it is open to this depth.
 pub record Within (opening : ℕ → Row) (rows : List Row) (k depth : ℕ) (below : List Row → Type 0) : Type 0 where
@@ -136,10 +129,10 @@ within_more opening rows k depth below c h s =
     record {
       front = s.front;
       guard = s.guard;
-      body = follow s.body c;
-      shallow = omega (arith, h, s.shallow, nesting_follow s.body c);
+      body = s.body ⨾ c;
+      shallow = omega (arith, h, s.shallow, nesting_then s.body c);
       here = s.here;
-      is = ap (λ (xs : List Row). s.front ++ (opening s.guard ∷ xs)) (listing_follow s.body c)
+      is = ap (λ (xs : List Row). s.front ++ (opening s.guard ∷ xs)) (listing_then s.body c)
           ∙ (sym (append_assoc s.front (opening s.guard ∷ listing s.body) (listing c)) ∙ ap (λ (xs : List Row). xs ++ listing c) s.is);
       beneath = s.beneath;
     }
@@ -147,9 +140,9 @@ within_more opening rows k depth below c h s =
 more : (c : Block) (rows : List Row) (st : List Open) → nesting c + length st ≤ 16 → Standing rows st → Standing (rows ++ listing c) st
 more c rows [] h s =
     record {
-      block = follow s.block c;
-      shallow = omega (arith, h, s.shallow, nesting_follow s.block c);
-      lists = listing_follow s.block c ∙ ap (λ (xs : List Row). xs ++ listing c) s.lists;
+      block = s.block ⨾ c;
+      shallow = omega (arith, h, s.shallow, nesting_then s.block c);
+      lists = listing_then s.block c ∙ ap (λ (xs : List Row). xs ++ listing c) s.lists;
     }
 more c rows (InThen k ∷ st) h s = within_more If rows k (suc (length st)) (λ front. Standing front st) c h s
 more c rows (InElse k j ∷ st) h s =
@@ -157,11 +150,11 @@ more c rows (InElse k j ∷ st) h s =
       front = s.front;
       guard = s.guard;
       first = s.first;
-      second = follow s.second c;
+      second = s.second ⨾ c;
       shallow_first = s.shallow_first;
-      shallow_second = omega (arith, h, s.shallow_second, nesting_follow s.second c);
+      shallow_second = omega (arith, h, s.shallow_second, nesting_then s.second c);
       here = s.here;
-      is = ap (λ (xs : List Row). s.front ++ (If s.guard ∷ (listing s.first ++ (Else ∷ xs)))) (listing_follow s.second c)
+      is = ap (λ (xs : List Row). s.front ++ (If s.guard ∷ (listing s.first ++ (Else ∷ xs)))) (listing_then s.second c)
           ∙ (ap (λ (xs : List Row). s.front ++ (If s.guard ∷ xs)) (sym (append_assoc (listing s.first) (Else ∷ listing s.second) (listing c)))
           ∙ (sym (append_assoc s.front (If s.guard ∷ (listing s.first ++ (Else ∷ listing s.second))) (listing c))
           ∙ ap (λ (xs : List Row). xs ++ listing c) s.is));
@@ -253,8 +246,8 @@ stands rows = stands_all rows [] 0 [] refl (record { block = nil; shallow = omeg
 
 pub accepted_walk : (s : Result (List Open) RowFault) → accepts s ≡ true → s ≡ Ok []
 accepted_walk (Ok []) e = refl
-accepted_walk (Ok (o ∷ st)) e = let z : ◌≡◌ {A = ℕ} 0 1 = cc in absurd (omega arith)
-accepted_walk (Err fault) e = let z : ◌≡◌ {A = ℕ} 0 1 = cc in absurd (omega arith)
+accepted_walk (Ok (o ∷ st)) e = cc
+accepted_walk (Err fault) e = cc
 
 -- accepted rows list a block
 pub listed : (rows : List Row) → accepts (walk 0 rows []) ≡ true → Program rows

@@ -4,4 +4,6 @@ pub mod Parsing
 pub mod Walk
 pub mod Faults
 pub mod Reading
+pub mod Eights
 pub mod Meaning
+pub mod Contents

@@ -1,10 +1,11 @@
 -- The block walker: what each row makes of the open blocks, and which rows are accepted. Assumes nothing.
-use Rattle.std.specs.Prelude.{◌≡◌, ℕ, zero, suc, ◌+◌, ◌≤◌, Bool, true, false, cond, List, [], ◌∷◌, length, Some, None, Ok, Err, Option, Result, nat_lt, slice_index_or}
+use Rattle.std.specs.Prelude.{◌≡◌, ℕ, ◌+◌, ◌≤◌, Bool, true, false, cond, List, [], ◌∷◌, length, reverse, Some, None, Ok, Err, Option, Result, nat_lt}
 use Rattle.sheets.specs.Programs.{Block, listing, nesting}
 use Rattle.sheets.specs.declared.fault.SheetFault.{SheetFault}
 use Rattle.sheets.specs.declared.fault.SheetFault.TheVariants.{StillOpen}
 use Rattle.sheets.specs.declared.walker.Open.{Open}
 use Rattle.sheets.specs.declared.walker.Open.TheVariants.{InThen, InElse, InLoop}
+use Rattle.sheets.specs.declared.walker.Walker.{Walker}
 use Rattle.rows.specs.declared.row.Row.{Row}
 use Rattle.rows.specs.declared.row.Row.TheVariants.{Idle, PutConstant, SlotWithConstant, TwoSlots, If, Else, While, End}
 use Rattle.rows.specs.declared.fault.RowFault.{RowFault}
@@ -83,10 +84,9 @@ pub record Program (rows : List Row) : Type 0 where
 abbrev pub Exact : Type 0
 Exact = (rows : List Row) → (accepts (walk 0 rows []) ≡ true → Program rows) × (Program rows → accepts (walk 0 rows []) ≡ true)
 
--- the first n places of an array as open blocks, the latest first
-abbrev pub latest : List Open → ℕ → List Open
-latest xs zero = []
-latest xs (suc n) = slice_index_or xs n (InThen 0) ∷ latest xs n
+-- the blocks that are open, the latest first
+abbrev pub latest : Walker → List Open
+latest walker = reverse walker.stack.items
 
 abbrev pub newest : List Open → Option Open
 newest [] = None
@@ -114,8 +114,8 @@ ended (While guard) st = None
 ended End st = latest_branch st
 
 -- a method that opens a block answers as `opened` does and leaves what it leaves; where it refuses nothing changes
-abbrev pub Opening : {A : Type 0} → Open → ℕ → List Open → Result A RowFault → List Open → Type 0
-Opening o i st (Ok x) after = opened o i st ≡ Ok after
+abbrev pub Opening : Open → ℕ → List Open → Result (Option ℕ) RowFault → List Open → Type 0
+Opening o i st (Ok x) after = (opened o i st ≡ Ok after) × (x ≡ None)
 Opening o i st (Err f) after = (opened o i st ≡ Err f) × (after ≡ st)
 
 -- a method that takes in a row, likewise

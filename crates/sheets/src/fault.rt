@@ -5,7 +5,7 @@ ghost use Rattle.sheets.specs.declared.fault.SheetFault.TheVariants.{Row};
 use rows::RowFault;
 
 /// Why a sheet is refused.
-#[derive(Clone, Copy)]
+#[derive(Clone, Copy, Debug, PartialEq, Eq)]
 pub enum SheetFault {
     /// It is over 2,048 bytes, or no whole number of rows.
     Length,
@@ -23,6 +23,7 @@ impl From<RowFault> for SheetFault {
     }
 }
 
+// The window's lines and the C interface tell a fault by its number, row and byte, so these stand beside the variants.
 impl SheetFault {
     /// The number by which the fault is told.
     pub fn number(self) -> u8

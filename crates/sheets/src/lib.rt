@@ -3,6 +3,7 @@
 
 mod fault;
 mod meaning;
+mod reading;
 mod sheet;
 mod walker;
 

@@ -1,15 +1,26 @@
-ghost use Rattle.std.specs.Prelude.{◌≡◌, ◌<◌, ◌≤◌, [], ◌∷◌};
-ghost use Rattle.sheets.specs.Walk.{opener, branch, latest, newest, beneath, at_end, Opening, Entering, Exact};
+ghost use Rattle.std.specs.Prelude.{◌≡◌, ◌<◌, [], ◌∷◌, length};
+ghost use Rattle.sheets.specs.Walk.{opener, branch, refused, latest, newest, beneath, at_end, Opening, Entering, Exact};
+ghost use Rattle.sheets.specs.declared.walker.Open.TheVariants.{InThen};
 
 use crate::fault::SheetFault;
+use arrayvec::ArrayVec;
 use rows::{Row, RowFault, RowReason};
 
 /// An open block, by the row that opened it, and by its else where that came.
-#[derive(Clone, Copy)]
+#[derive(Clone, Copy, Debug, PartialEq, Eq)]
 pub enum Open {
     InThen { row: u8 },
     InElse { row: u8, other: u8 },
     InLoop { row: u8 },
+}
+
+/// Fills the places of a walker where no block stands. A derived default is a variant without fields, and there is none.
+impl Default for Open {
+    ghost is_default = { λ block. block ≡ InThen 0 };
+
+    fn default() -> Open {
+        Open::InThen { row: 0 }
+    }
 }
 
 impl Open {
@@ -33,95 +44,77 @@ impl Open {
     }
 }
 
+fn refused(at: u8, reason: RowReason) -> Result<Option<u8>, RowFault>
+    ensures { result ≡ refused at reason }
+{
+    Err(RowFault { row: at, reason })
+}
+
 /// The blocks that are open, the latest last.
 #[derive(Drop)]
 pub struct Walker {
-    stack: [Open; 16],
-    depth: usize,
-    ghost fits: { depth ≤ 16 },
+    stack: ArrayVec<Open, 16>,
 }
 
 impl Walker {
     /// No block is open.
     pub fn new() -> Walker
-        ensures { latest result.stack result.depth ≡ [] }
+        ensures { latest result ≡ [] }
     {
-        Walker {
-            stack: [Open::InThen { row: 0 }; 16],
-            depth: 0,
-        }
+        let stack = ArrayVec::new();
+        Walker { stack }
     }
 
     fn latest(&self) -> Option<Open>
-        ensures { result ≡ newest (latest self.now.stack self.now.depth) }
+        ensures { result ≡ newest (latest self.now) }
     {
-        if self.depth == 0 {
-            None
-        } else {
-            Some(self.stack[self.depth - 1])
-        }
+        self.stack.last().copied()
     }
 
     // Opens a block at the row `at`.
-    fn open(&mut self, block: Open, at: u8) -> Result<(), RowFault>
-        ensures { Opening block at (latest self.old.stack self.old.depth) result (latest self.new.stack self.new.depth) }
+    fn open(&mut self, block: Open, at: u8) -> Result<Option<u8>, RowFault>
+        ensures { Opening block at (latest self.old) result (latest self.new) }
     {
-        if self.depth == 16 {
-            return Err(RowFault {
-                row: at,
-                reason: RowReason::TooDeep,
-            });
+        if self.stack.try_push(block).is_err() {
+            return refused(at, RowReason::TooDeep);
         }
-        self.stack[self.depth] = block;
-        self.depth += 1;
-        Ok(())
+        Ok(None)
     }
 
     // Puts a block into the place of the latest.
     fn replace(&mut self, block: Open)
-        requires { 0 < self.old.depth }
-        ensures { latest self.new.stack self.new.depth ≡ block ∷ beneath (latest self.old.stack self.old.depth) }
+        requires { 0 < length (latest self.old) }
+        ensures { latest self.new ≡ block ∷ beneath (latest self.old) }
     {
-        self.stack[self.depth - 1] = block;
+        let last = self.stack.len() - 1;
+        self.stack[last] = block;
     }
 
     // Closes the latest block.
     fn close(&mut self)
-        requires { 0 < self.old.depth }
-        ensures { latest self.new.stack self.new.depth ≡ beneath (latest self.old.stack self.old.depth) }
+        requires { 0 < length (latest self.old) }
+        ensures { latest self.new ≡ beneath (latest self.old) }
     {
-        self.depth -= 1;
+        self.stack.pop();
     }
 
     /// Takes in the row number `at`, and gives the row that opened the branch that it ends, if it ends one.
     pub fn enter(&mut self, row: Row, at: u8) -> Result<Option<u8>, RowFault>
-        ensures { Entering row at (latest self.old.stack self.old.depth) result (latest self.new.stack self.new.depth) }
+        ensures { Entering row at (latest self.old) result (latest self.new) }
     {
         match (self.latest(), row) {
             (Some(Open::InThen { row }), Row::Else) => {
                 self.replace(Open::InElse { row, other: at });
                 Ok(Some(row))
             }
-            (_, Row::Else) => Err(RowFault {
-                row: at,
-                reason: RowReason::ElseOutOfPlace,
-            }),
+            (_, Row::Else) => refused(at, RowReason::ElseOutOfPlace),
             (Some(block), Row::End) => {
                 self.close();
                 Ok(Some(block.branch()))
             }
-            (None, Row::End) => Err(RowFault {
-                row: at,
-                reason: RowReason::EndOutOfPlace,
-            }),
-            (_, Row::If { .. }) => {
-                self.open(Open::InThen { row: at }, at)?;
-                Ok(None)
-            }
-            (_, Row::While { .. }) => {
-                self.open(Open::InLoop { row: at }, at)?;
-                Ok(None)
-            }
+            (None, Row::End) => refused(at, RowReason::EndOutOfPlace),
+            (_, Row::If { .. }) => self.open(Open::InThen { row: at }, at),
+            (_, Row::While { .. }) => self.open(Open::InLoop { row: at }, at),
             (
                 _,
                 Row::Idle
@@ -134,7 +127,7 @@ impl Walker {
 
     /// After the last row no block may be open.
     pub fn finish(&self) -> Result<(), SheetFault>
-        ensures { result ≡ at_end tt (latest self.now.stack self.now.depth) }
+        ensures { result ≡ at_end tt (latest self.now) }
     {
         match self.latest() {
             Some(block) => Err(SheetFault::StillOpen {

@@ -1,15 +1,22 @@
-ghost use Rattle.std.specs.Prelude.{◌≡◌, slice_set};
-ghost use Rattle.table.specs.Slots.{blank_table, person_at, value_at, label_at, listed, put, with_person, with_slot};
+ghost use Rattle.std.specs.Prelude.{◌≡◌, slice_index_or, slice_set};
+ghost use Rattle.table.specs.Slots.{blank, blank_table, person_at, value_at, label_at, listed, put, with_person, with_slot};
 
 /// A place for one value. A slot that is not listed has no label. A label is a code.
-#[derive(Clone, Copy)]
+#[derive(Clone, Copy, Debug, PartialEq, Eq)]
 pub struct Slot {
     pub label: Option<u64>,
     pub value: i32,
 }
 
-/// Persons 0 to 15, each with a label if listed, and slots 0 to 63.
-#[derive(Clone, Copy)]
+// A slot that is not listed, and what is read past the last one.
+const BLANK: Slot = Slot {
+    label: None,
+    value: 0,
+};
+
+/// Persons 0 to 15, each with a label if listed, and slots 0 to 63. Arrays and no maps: the box takes no heap, and every number has
+/// its place.
+#[derive(Clone, Copy, Debug, PartialEq, Eq)]
 pub struct Table {
     pub people: [Option<u64>; 16],
     pub slots: [Slot; 64],
@@ -22,10 +29,7 @@ impl Table {
     {
         Table {
             people: [None; 16],
-            slots: [Slot {
-                label: None,
-                value: 0,
-            }; 64],
+            slots: [BLANK; 64],
         }
     }
 
@@ -33,20 +37,14 @@ impl Table {
     pub fn person(&self, number: u8) -> Option<u64>
         ensures { result ≡ person_at self.now.people number }
     {
-        match self.people.get(number as usize) {
-            Some(label) => *label,
-            None => None,
-        }
+        self.people.get(usize::from(number)).copied().flatten()
     }
 
     /// The label of a slot, if listed. Past the last slot nothing is.
     pub fn label(&self, slot: u8) -> Option<u64>
         ensures { result ≡ label_at self.now.slots slot }
     {
-        match self.slots.get(slot as usize) {
-            Some(slot) => slot.label,
-            None => None,
-        }
+        self.slot(slot).label
     }
 
     /// Whether a slot is listed.
@@ -60,10 +58,14 @@ impl Table {
     pub fn value(&self, slot: u8) -> i32
         ensures { result ≡ value_at self.now.slots slot }
     {
-        match self.slots.get(slot as usize) {
-            Some(slot) => slot.value,
-            None => 0,
-        }
+        self.slot(slot).value
+    }
+
+    // A slot: past the last a blank one.
+    fn slot(&self, slot: u8) -> Slot
+        ensures { result ≡ slice_index_or self.now.slots slot blank }
+    {
+        self.slots.get(usize::from(slot)).copied().unwrap_or(BLANK)
     }
 
     /// Gives a slot another value. Past the last slot nothing changes.
@@ -71,7 +73,11 @@ impl Table {
         ensures slots { self.new.slots ≡ put self.old.slots slot value }
         ensures people { self.new.people ≡ self.old.people }
     {
-        put_value(&mut self.slots, slot, value);
+        let changed = Slot {
+            value,
+            ..self.slot(slot)
+        };
+        write(&mut self.slots, slot, changed);
     }
 
     /// Lists a person with a label. Past the last person nothing changes.
@@ -95,21 +101,12 @@ impl Table {
     }
 }
 
-// Puts an item at an index, if there is such a one.
+// Puts an item at an index, if there is such a one. It goes by the index, since of a write through `get_mut` a proof learns nothing.
 fn write<T: Copy>(items: &mut [T], index: u8, item: T)
     ensures { items.new ≡ slice_set items.old index item }
 {
-    let index = index as usize;
+    let index = usize::from(index);
     if index < items.len() {
         items[index] = item;
-    }
-}
-
-fn put_value(slots: &mut [Slot], slot: u8, value: i32)
-    ensures { slots.new ≡ put slots.old slot value }
-{
-    let slot = slot as usize;
-    if slot < slots.len() {
-        slots[slot].value = value;
     }
 }

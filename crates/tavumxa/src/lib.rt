@@ -21,7 +21,7 @@ pub extern "C" fn tavumxa_room_for(input: &[u8]) -> usize
 }
 
 /// Plays an input, a roster and call lines, at a new box, and writes the answers into a buffer. Answers whether there was room for them, and how
-/// long they are by `size`; without room nothing is written and `size` stays.
+/// long they are by `size`; without room nothing is written and `size` stays. C has no `Option`: the flag and the number beside it stand for one.
 #[unsafe(no_mangle)]
 pub extern "C" fn tavumxa_respond(input: &[u8], out: &mut [u8], size: &mut usize) -> bool
     ensures printed { ◌≡◌ {A = Bool × ℕ × List ℕ} (result, size.new, out.new) (handed size.old (placed (room_for (read_of input.now)) (printed (read_of input.now)) out.old)) }

@@ -1,8 +1,4 @@
 //! The third part of the task: a day's calls at the box, and the same day without those of the back office.
-ghost use Rattle.std.specs.Prelude.{◌≡◌, ℕ, ℤ};
-ghost use Rattle.monitor.specs.Calls.{answer_of};
-ghost use Rattle.tour.specs.Answers.{numbers};
-
 use crate::scheme;
 use crate::station::{COMPARING, LEAKING, PEOPLE, Person, ROSTER};
 use anyhow::anyhow;
@@ -22,9 +18,8 @@ struct Act {
 }
 
 fn lay(person: Person, slot: u8, value: i32, words: &'static str) -> Act {
-    let number = person.number;
     let call = Call::Lay {
-        person: number,
+        person: person.number,
         slot,
         value,
     };
@@ -36,9 +31,8 @@ fn lay(person: Person, slot: u8, value: i32, words: &'static str) -> Act {
 }
 
 fn view(person: Person, slot: u8, words: &'static str) -> Act {
-    let number = person.number;
     let call = Call::View {
-        person: number,
+        person: person.number,
         slot,
     };
     Act {
@@ -49,9 +43,8 @@ fn view(person: Person, slot: u8, words: &'static str) -> Act {
 }
 
 fn run(person: Person, sheet: &'static [u8], words: &'static str) -> Act {
-    let number = person.number;
     let call = Call::Run {
-        person: number,
+        person: person.number,
         sheet,
         turns: 100,
     };
@@ -79,42 +72,6 @@ fn day() -> [Act; CALLS] {
         view(jewellery, 1, "asks for the metal of the ring"),
         view(money, 2, "asks for the engraving"),
     ]
-}
-
-/// What a call gives back, in numbers.
-#[derive(Clone, Copy, PartialEq, Eq)]
-struct Told {
-    number: u8,
-    row: u16,
-    byte: u16,
-    value: i32,
-}
-
-fn in_numbers(answer: Answer) -> Told
-    ensures { ◌≡◌ {A = ℕ × ℕ × ℕ × ℤ} (result.number, result.row, result.byte, result.value) (numbers (answer_of answer)) }
-{
-    match answer {
-        Answer::Laid => carried_out(0),
-        Answer::Viewed { value } => carried_out(value),
-        Answer::Ran { turns } => carried_out(turns as i32),
-        Answer::Refused(fault) => Told {
-            number: fault.number(),
-            row: fault.row(),
-            byte: fault.byte(),
-            value: fault.count() as i32,
-        },
-    }
-}
-
-fn carried_out(value: i32) -> Told
-    ensures { ◌≡◌ {A = ℕ × ℕ × ℕ × ℤ} (result.number, result.row, result.byte, result.value) (0, 0, 0, value) }
-{
-    Told {
-        number: 0,
-        row: 0,
-        byte: 0,
-        value,
-    }
 }
 
 pub(crate) fn tell(rt: &HostRuntime) -> anyhow::Result<()> {
@@ -177,14 +134,12 @@ fn tell_strike(
         return Ok(());
     };
     let mut left = Vec::new(rt.alloc());
-    let mut before = Vec::new(rt.alloc());
     for (act, answer) in acts.iter().zip(answers.iter()) {
         if scheme.flows_to(act.person.label, label) {
-            left.push(*act)?;
-            before.push(*answer)?;
+            left.push((*act, *answer))?;
         }
     }
-    let same = same_again(rt.alloc(), &left, &before)?;
+    let same = same_again(rt.alloc(), &left)?;
     let struck = acts.len().saturating_sub(left.len());
     let count = left.len();
     println!(rt;
@@ -194,13 +149,16 @@ fn tell_strike(
 }
 
 // How many of these calls, made alone at a new box, get the answer that they got before.
-fn same_again(heap: Global, left: &[Act], before: &[Answer]) -> anyhow::Result<usize> {
-    let after = answers_to(heap, left)?;
-    let mut same: usize = 0;
-    for (x, y) in before.iter().zip(after.iter()) {
-        if in_numbers(*x) == in_numbers(*y) {
-            same = same.saturating_add(1);
-        }
+fn same_again(heap: Global, left: &[(Act, Answer)]) -> anyhow::Result<usize> {
+    let mut acts = Vec::new(heap);
+    for (act, _) in left {
+        acts.push(*act)?;
     }
-    Ok(same)
+    let answers = answers_to(heap, &acts)?;
+    Ok(
+        left.iter()
+            .zip(answers.iter())
+            .filter(|((_, before), after)| *before == **after)
+            .count(),
+    )
 }

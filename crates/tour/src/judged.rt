@@ -26,8 +26,8 @@ pub(crate) fn tell<S: Scheme>(rt: &HostRuntime, scheme: &S) -> io::Result<()> {
 fn tell_sheet(rt: &HostRuntime, bytes: &[u8], table: &Table) -> io::Result<()> {
     match Sheet::read(bytes, table) {
         Ok(sheet) => {
-            for i in 0..sheet.count {
-                tell_row(rt, i, sheet.rows[i])?;
+            for (i, row) in sheet.rows.as_slice().iter().enumerate() {
+                tell_row(rt, i, *row)?;
             }
             Ok(())
         }
@@ -80,6 +80,7 @@ fn tell_row(rt: &HostRuntime, i: usize, row: Row) -> io::Result<()> {
     }
 }
 
+// The words are this program's, so they are no `Display` of the crate that has the operations.
 fn name(operation: Operation) -> &'static str {
     match operation {
         Operation::Sum => "sum",
@@ -118,6 +119,7 @@ fn tell_verdict<S: Scheme>(
     }
 }
 
+// Likewise words of this program: two reasons are told, which are all that a judge gives.
 fn reason(reason: RowReason) -> &'static str {
     match reason {
         RowReason::SetNotPassed => "for what is set there lies below what the row depends on",

@@ -10,7 +10,8 @@ mod station;
 use anyhow::anyhow;
 use labels::{Ladder, Pair, SchemeFault, Topics};
 
-/// Three topics (low) and a ladder of four levels (high).
+/// Three topics (low) and a ladder of four levels (high). It is a line, so it is written where it is needed and not exported by the
+/// window's crate.
 pub(crate) fn scheme() -> Result<Pair<Topics, Ladder>, SchemeFault> {
     Ok(Pair::new(Topics::new(3)?, Ladder::new(4)?))
 }

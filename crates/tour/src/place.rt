@@ -5,7 +5,7 @@ use labels::Scheme;
 use std::fmt;
 
 /// Where a mark lies, seen from a person.
-#[derive(Clone, Copy)]
+#[derive(Clone, Copy, Debug, PartialEq, Eq)]
 pub enum Place {
     AtOrBelow,
     Above,

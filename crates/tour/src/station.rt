@@ -116,10 +116,8 @@ pub const LEAKING: [u8; 32] = [
 
 /// The name of the mark in a slot.
 pub(crate) fn mark_in(slot: u8) -> &'static str {
-    for mark in MARKS {
-        if mark.slot == slot {
-            return mark.name;
-        }
-    }
-    "no mark"
+    MARKS
+        .iter()
+        .find(|mark| mark.slot == slot)
+        .map_or("no mark", |mark| mark.name)
 }

@@ -1,30 +1,14 @@
-use Rattle.std.proofs.Common.{◌≡◌, ℕ, List, sym, subst}
-use Rattle.noninterference.specs.Monitor.{Monitor}
-use Rattle.console.specs.declared.window.Window.{Window}
-use Rattle.console.proofs.Buffers.{as_text}
-use Rattle.console.proofs.Filling.{Filling, fill_line, fill_on, fill_last, fill_none}
+use Rattle.std.proofs.Common.{List, ℕ, ap, sym, ◌++◌, ◌∙◌}
+use Rattle.console.specs.Onward.{to_print}
+use Rattle.console.proofs.Filled.{none_yet, one_more}
 use Rattle.console.proofs.buffered.write_answers.Goals as goal
-use Rattle.console.proofs.buffered.write_answers.Goals.{then-byte-eq10, else-byte-eq10}
 
--- the same of equals
-moved : {M : Monitor} {all text before out out' : List ℕ} {start start' i to to' : ℕ} {w w' : Window} → start' ≡ start → w' ≡ w → out' ≡ out → to' ≡ to →
-    Filling M all text start i w.monitor.table before out to → Filling M all text start' i w'.monitor.table before out' to'
-moved {M} {all} {text} {before} {out} {out'} {start} {start'} {i} {to} {to'} {w} {w'} s e o t filling =
-    let At : ℕ → Window → List ℕ → ℕ → Type 0 = λ s w out to. Filling M all text s i w.monitor.table before out to in
-    subst (λ (x : ℕ). At x w' out' to') (sym s) (subst (λ (x : Window). At start x out' to') (sym e) (subst (λ (x : List ℕ). At start w x to') (sym o) (subst (λ (x : ℕ). At start w out x) (sym t) filling)))
+pub loop-reply-init : goal.loop-reply-init
+loop-reply-init c =
+    rw c.into_iter-reply-iterator.ensures.into_iter_gives (none_yet c.args.out.now c.new-reply-items.ensures.0 c.new-reply-items.ensures.1 c.requires)
 
-pub loop-i-preserved : goal.loop-i-preserved
-loop-i-preserved c =
-    elim c.if-byte-eq10.branch [
-      | then-byte-eq10 w ↦
-          moved w.start-is w.window-is w.out-is w.end-is
-          (fill_line c.loop-i.invariant c.loop-i-test.true w.if-byte-eq10.true w.reply_by-reply.ensures w.write-end.ensures.wrote w.write-end.ensures.few w.write-end.auto.out)
-      | else-byte-eq10 w ↦ moved w.start-is w.window-is w.out-is w.end-is (fill_on c.loop-i.invariant c.loop-i-test.true w.if-byte-eq10.false)
-    ]
-
-pub returns-then-start-text : goal.returns-then-start-text
-returns-then-start-text c =
-    fill_last c.loop-i.invariant c.loop-i-test.false c.if-start-text.true (as_text c.faulty.ensures c.write-end-then-start-text.ensures.wrote)
-
-pub returns-else-start-text : goal.returns-else-start-text
-returns-else-start-text c = fill_none c.loop-i.invariant c.loop-i-test.false c.if-start-text.false
+pub loop-reply-preserved : goal.loop-reply-preserved
+loop-reply-preserved c =
+    let rest = to_print c.next.new.self.window.monitor.table c.next.new.self.left.now in
+    one_more c.loop-reply.invariant (c.in-Some.ensures.steps.0 ∙ ap (λ (line : List ℕ). line ++ rest) (sym (c.as_str.ensures.value ∙ c.line_of.ensures))) c.in-Some.ensures.steps.1 c.as_str.ensures.fits
+    c.write-end.ensures c.write-end.auto.out

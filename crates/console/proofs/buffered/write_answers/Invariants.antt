@@ -1,10 +1,5 @@
-use Rattle.std.proofs.Common.{[]}
-use Rattle.console.specs.Scheme.{window_of}
-use Rattle.console.proofs.Filling.{Filling}
-use Rattle.console.proofs.Turning.{to_print}
+use Rattle.console.proofs.Filled.{Filled}
 use Rattle.console.proofs.buffered.write_answers.Given as goal
 
-abbrev pub invariant-loop-i : goal.invariant-loop-i
-invariant-loop-i l =
-    let table = l.initial.window.monitor.table in
-    Filling (window_of table) (to_print (window_of table) table.slots [] l.text) l.text l.start l.i l.window.monitor.table l.initial.out l.out l.end
+abbrev pub invariant-loop-reply : goal.invariant-loop-reply
+invariant-loop-reply l = Filled l.fn.window.monitor.table l.lines l.reply-iterator.window.monitor.table l.reply-iterator.left.now l.initial.out l.out l.end

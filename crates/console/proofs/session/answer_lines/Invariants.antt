@@ -1,9 +1,8 @@
-use Rattle.std.proofs.Common.{[], string_bytes}
-use Rattle.console.specs.Scheme.{window_of}
-use Rattle.console.proofs.Turning.{to_print, Going}
+use Rattle.std.proofs.Common.{◌≡◌, ◌++◌, string_bytes}
+use Rattle.console.specs.Onward.{to_print}
 use Rattle.console.proofs.session.answer_lines.Given as goal
 
-abbrev pub invariant-loop-i : goal.invariant-loop-i
-invariant-loop-i l =
-    Going (window_of l.initial.window.monitor.table) (to_print (window_of l.initial.window.monitor.table) l.initial.window.monitor.table.slots [] l.text) l.text
-    l.start l.i l.window.monitor.table (string_bytes l.printed)
+-- what is printed so far, and what is still to print, are all
+abbrev pub invariant-loop-reply : goal.invariant-loop-reply
+invariant-loop-reply l =
+    string_bytes l.printed ++ to_print l.reply-iterator.window.monitor.table l.reply-iterator.left.now ≡ to_print l.fn.window.monitor.table l.lines

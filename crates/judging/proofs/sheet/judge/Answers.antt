@@ -1,20 +1,10 @@
-use native.Mathlib.Nat.{sub-zero}
-use Rattle.std.proofs.Common.{arith, length-take}
 use Rattle.sheets.proofs.Walks.{listed}
 use Rattle.judging.proofs.Judgements.{judgement}
 use Rattle.judging.proofs.sheet.judge.Goals as goal
 
--- the part that is lent is the first `count` rows: its `count - 0` is rewritten
-pub judge_rows-requires : goal.judge_rows-requires
-judge_rows-requires g c =
-    let sheet = c.args.sheet.now in
-    rw sub-zero
-    (record {
-      program = listed _ sheet.accepted;
-      few = simp length-take (omega (arith, sheet.few));
-    })
+pub block-requires-clause-program : goal.block-requires-clause-program
+block-requires-clause-program g c = rw c.as_slice.ensures.value (listed _ c.args.sheet.now.accepted)
 
 pub returns : goal.returns
 returns g c =
-    let answers = rw sub-zero at c.judge_rows.ensures in
-    judgement _ _ _ _ _ _ (listed _ c.args.sheet.now.accepted) answers
+    judgement _ _ _ _ _ _ (listed _ c.args.sheet.now.accepted) (rw c.as_slice.ensures.value at c.block.ensures)

@@ -9,9 +9,6 @@ pub loop-place-init : goal.loop-place-init
 unfolding bits_where
 loop-place-init c = refl
 
-pub overflow_shl-mask : goal.overflow_shl-mask
-overflow_shl-mask c = omega (arith, square_fits c.args.principals c.requires.1)
-
 pub loop-place-preserved : goal.loop-place-preserved
 loop-place-preserved c =
     let k = c.args.principals in

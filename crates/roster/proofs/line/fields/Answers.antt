@@ -1,18 +1,30 @@
-use Rattle.std.proofs.Common.{ℕ, ◌+◌, take, ap, ◌∙◌, arith}
-use native.Mathlib.Nat.{sub-zero}
-use Rattle.std.proofs.lemmas.List.{take_rest}
+use Rattle.std.proofs.Common.{◌≡◌, ℕ, List, Some, None, Option, refl, ap, ◌∙◌, arith}
+use Rattle.std.specs.Option.{MatchOption, IsSome}
 use Rattle.numerals.specs.Decimal.{written}
-use Rattle.numerals.proofs.Numbers.{written_digits}
-use Rattle.roster.proofs.Cuts.{cut_at, has_cut}
+use Rattle.numerals.specs.Fields.{cut}
+use Rattle.numerals.proofs.Cutting.{cut_written}
+use Rattle.roster.specs.Parts.{two}
 use Rattle.roster.proofs.line.fields.Goals as goal
 
-pub returns-then-byte-eq44 : goal.returns-then-byte-eq44
-returns-then-byte-eq44 c = λ n m e.
-    let rest = c.args.rest.now in
-    let i = c.loop-i.i in
-    let cut = cut_at (written n) (written m) rest 44 i (omega arith) (written_digits n) e c.loop-i-test.true c.if-byte-eq44.true c.loop-i.invariant in
-    (ap (λ (k : ℕ). take k rest) (sub-zero i) ∙ cut.0, take_rest rest (i + 1) ∙ cut.1)
+-- the first comma stands between the two numbers
+two_cut : (rest : List ℕ) (n m : ℕ) → rest ≡ two n m → cut rest ≡ Some (written n, written m)
+two_cut rest n m is = ap cut is ∙ cut_written n (written m)
 
-pub unreachable-requires : goal.unreachable-requires
-unreachable-requires c =
-    has_cut (written c.requires.first) (written c.requires.second) c.args.rest.now 44 c.requires.is (λ j l. c.loop-i.invariant j (omega arith))
+module _ {A : Type 0} (f : A → List ℕ × List ℕ) (r : Option (List ℕ × List ℕ)) (p : List ℕ × List ℕ) (e : r ≡ Some p) where
+  is_cut : (o : Option A) → MatchOption o (r ≡ None) (λ x. r ≡ Some (f x)) → IsSome o
+  is_cut None m = let z : ◌≡◌ {A = ℕ} 0 1 = cc in absurd (omega arith)
+  is_cut (Some x) m = refl
+
+  cut_parts : (o : Option A) (x : A) → MatchOption o (r ≡ None) (λ x. r ≡ Some (f x)) → o ≡ Some x → f x ≡ p
+  cut_parts None x m s = let z : ◌≡◌ {A = ℕ} 0 1 = cc in absurd (omega arith)
+  cut_parts (Some y) x m s = cc
+
+pub unwrap-requires : goal.unwrap-requires
+unwrap-requires c =
+    let w = c.requires in
+    is_cut (λ parts. (parts.0.now, parts.1.now)) _ (written w.first, written w.second) (two_cut c.args.rest.now w.first w.second w.is) c.cut_at.result c.cut_at.ensures
+
+pub returns : goal.returns
+returns c = λ n m e.
+    let parts = cut_parts (λ parts. (parts.0.now, parts.1.now)) _ (written n, written m) (two_cut c.args.rest.now n m e) c.cut_at.result c.unwrap.result c.cut_at.ensures c.unwrap.ensures in
+    (ap (λ (p : List ℕ × List ℕ). p.0) parts, ap (λ (p : List ℕ × List ℕ). p.1) parts)

@@ -1,47 +1,56 @@
-use Rattle.std.proofs.Common.{◌+◌, drop, Err, ap, ◌∙◌, arith}
-use Rattle.roster.specs.Reading.{fault_in}
-use Rattle.roster.proofs.Keeping.{going_short, going_all, going_never, going_on, going_whole, going_next, going_as, kept_err, kept_ok}
+use Rattle.std.proofs.Common.{◌≡◌, ℕ, ◌<◌, length, Ok, Err, Result, refl, ap, ◌∙◌, subst, arith, rules}
+use Rattle.roster.specs.declared.fault.RosterFault.TheVariants.{Line}
+use Rattle.roster.specs.declared.fault.LineReason.TheVariants.{Form}
+use Rattle.roster.specs.Spelling.{FaultAt}
+use Rattle.roster.specs.declared.fault.LineReason.{LineReason}
+use Rattle.roster.specs.Reading.{fault_in, lines_of}
+use Rattle.roster.specs.Parts.{Begins, KeptAs}
+use Rattle.roster.proofs.Keeping.{going_formless, going_refused, going_next, going_done}
 use Rattle.roster.proofs.reader.read_lines.Goals as goal
-use Rattle.roster.proofs.reader.read_lines.Goals.{in-Whole+in_default, in-On}
 
-pub returns-in-Never : goal.returns-in-Never
-returns-in-Never c = ap Err c.formless.ensures ∙ going_never c.loop-i.invariant c.loop-i-test.true c.in-Never.ensures
+by_result : {A E : Type 0} {P : Type 0} (r : Result A E) → ((x : A) → r ≡ Ok x → P) → ((e : E) → r ≡ Err e → P) → P
+by_result (Ok x) f g = f x refl
+by_result (Err e) f g = g e refl
 
-pub of-requires : goal.of-requires
-of-requires c =
-    let x = going_whole c.loop-i.invariant c.loop-i-test.true c.in-Whole.ensures in
-    record { entry = x.0; is = x.1 }
+pub returns-in_err-entry : goal.returns-in_err-entry
+returns-in_err-entry c =
+    let some : 0 < length c.loop-left.left.now = search rules in
+    let fact : Err c.in_err-entry.field-0.0 ≡ lines_of c.args.width c.args.text.now =
+    by_result c.first_line.result
+    (λ x h. let z : ◌≡◌ {A = ℕ} 0 1 = search (rules, h) in absurd (omega arith))
+    (λ k h.
+    let f : FaultAt c.loop-left.left.now k = search (rules, h) in
+    let e : c.in_err-entry.field-0.0 ≡ Line c.loop-left.line (Form k) = search (rules, h) in
+    ap Err e ∙ going_formless c.loop-left.invariant k some f) in
+    search (rules, fact)
 
-pub returns-in-Err : goal.returns-in-Err
-returns-in-Err c =
-    let w = c.args.width in
-    let t = c.loop-i.table in
-    let x = going_whole c.loop-i.invariant c.loop-i-test.true c.in-Whole.ensures in
-    let kept = c.in-Err.ensures x.0 (c.of.ensures x.0 x.1) in
-    kept_err (fault_in w x.0 t) w t c.list.new.table c.loop-i.line x.0 (drop (c.loop-i.i + 1) c.args.text.now) c.in-Err.reason kept ∙ x.2
+pub returns-in_err-map_err : goal.returns-in_err-map_err
+returns-in_err-map_err c =
+    let t = c.loop-left.table in
+    let u = c.list.new.table in
+    let rest = c.in_ok-entry.rest.now in
+    let b : Begins c.loop-left.left.now c.in_ok-entry.entry rest = search rules in
+    let kept = c.list.ensures b.0 b.2 in
+    let fact : Err c.in_err-map_err.field-0.0 ≡ lines_of c.args.width c.args.text.now =
+    by_result c.list.result
+    (λ x h. let z : ◌≡◌ {A = ℕ} 0 1 = search (rules, h) in absurd (omega arith))
+    (λ reason h.
+    let e : c.in_err-map_err.field-0.0 ≡ Line c.loop-left.line reason = search (rules, h) in
+    ap Err e ∙ going_refused c.loop-left.invariant b.0 rest b.1 reason u (subst (λ (r : Result (Unit {0}) LineReason). KeptAs (fault_in c.args.width b.0 t) b.0 t r u) h kept)) in
+    search (rules, fact)
 
-pub loop-i-preserved : goal.loop-i-preserved
-loop-i-preserved c =
-    let w = c.args.width in
-    let text = c.args.text.now in
-    let t = c.loop-i.table in
-    let line = c.loop-i.line in
-    let from = c.loop-i.start in
-    let i = c.loop-i.i in
-    elim c.match-after.branch [
-      | in-Whole+in_default v ↦
-          let x = going_whole c.loop-i.invariant c.loop-i-test.true v.in-Whole.ensures in
-          let kept = v.in_default.ensures x.0 (v.of.ensures x.0 x.1) in
-          let on = kept_ok (fault_in w x.0 t) w t v.list.new.table line x.0 (drop (i + 1) text) kept ∙ x.2 in
-          going_as v.table-is v.line-is v.start-is v.place-is
-          (going_next w text v.list.new.table line from i c.loop-i.invariant.few c.loop-i.invariant.begun on)
-      | in-On v ↦
-          going_as v.table-is v.line-is v.start-is v.place-is
-          (going_on c.loop-i.invariant c.loop-i-test.true v.in-On.next v.in-On.ensures)
-    ]
-
-pub returns-then-start-text : goal.returns-then-start-text
-returns-then-start-text c = ap Err c.formless-then-start-text.ensures ∙ going_short c.loop-i.invariant c.loop-i.auto.i-end c.loop-i-test.false (omega (arith, c.if-start-text.true))
+pub loop-left-preserved : goal.loop-left-preserved
+loop-left-preserved c =
+    let t = c.loop-left.table in
+    let u = c.list.new.table in
+    let rest = c.in_ok-entry.rest.now in
+    let b : Begins c.loop-left.left.now c.in_ok-entry.entry rest = search rules in
+    let kept = c.list.ensures b.0 b.2 in
+    by_result c.list.result
+    (λ x h. going_next c.loop-left.invariant b.0 rest b.1 u (subst (λ (r : Result (Unit {0}) LineReason). KeptAs (fault_in c.args.width b.0 t) b.0 t r u) h kept))
+    (λ reason h. let z : ◌≡◌ {A = ℕ} 0 1 = search (rules, h) in absurd (omega arith))
 
 pub returns : goal.returns
-returns c = going_all c.loop-i.invariant c.loop-i.auto.i-end c.loop-i-test.false (omega (arith, c.if-start-text.false))
+returns c =
+    let none : length c.loop-left.left.now ≡ 0 = search rules in
+    going_done c.loop-left.invariant none

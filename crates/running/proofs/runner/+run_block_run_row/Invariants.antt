@@ -15,7 +15,7 @@ abbrev pub invariant-run_block-loop-at : goal.invariant-run_block-loop-at
 invariant-run_block-loop-at l =
     (l.from ≤ l.at)
     × (l.table.people ≡ l.initial.table.people)
-    × ((b : Block) → Linked l.sheet.rows l.sheet.jumps l.from b l.to → Left l.sheet.rows l.sheet.jumps l.at l.to b l.initial.table.slots l.turns l.table.slots l.left)
+    × ((b : Block) → Linked l.sheet.rows.items l.sheet.jumps l.from b l.to → Left l.sheet.rows.items l.sheet.jumps l.at l.to b l.initial.table.slots l.turns l.table.slots l.left)
 
 abbrev pub decreases-run_block-loop-at : goal.decreases-run_block-loop-at
 decreases-run_block-loop-at l = l.to - l.at
@@ -23,7 +23,7 @@ decreases-run_block-loop-at l = l.to - l.at
 abbrev pub invariant-run_row-loop-at : goal.invariant-run_row-loop-at
 invariant-run_row-loop-at l =
     (l.table.people ≡ l.initial.table.people)
-    × ((b : Block) (to : ℕ) → Linked l.sheet.rows l.sheet.jumps l.at b to → l.at < to → Looking l.sheet.rows l.sheet.jumps l.at l.guard b to l.initial.table.slots l.turns l.table.slots l.left)
+    × ((b : Block) (to : ℕ) → Linked l.sheet.rows.items l.sheet.jumps l.at b to → l.at < to → Looking l.sheet.rows.items l.sheet.jumps l.at l.guard b to l.initial.table.slots l.turns l.table.slots l.left)
 
 abbrev pub decreases-run_row-loop-at : goal.decreases-run_row-loop-at
 decreases-run_row-loop-at l = l.left

@@ -9,9 +9,6 @@ returns-in-Sum c = search (rules, wraps)
 pub returns-in-Difference : goal.returns-in-Difference
 returns-in-Difference c = search (rules, wraps)
 
-pub returns-in-Product : goal.returns-in-Product
-returns-in-Product c = search (rules, wraps)
-
 pub overflow_cast-result : goal.overflow_cast-result
 overflow_cast-result c =
     record { sfits = of_bits_small _ _ c.ranges.first c.ranges.second _ _ _ c.cast_unsigned.ensures c.cast_unsigned-in-Differing.ensures c.differing.ensures }

@@ -1,5 +1,0 @@
-use Rattle.console.proofs.Reading.{reading}
-use Rattle.console.proofs.request.reading_stands.Goals as goal
-
-pub returns : goal.returns
-returns c = reading

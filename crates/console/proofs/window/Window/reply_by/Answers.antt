@@ -1,8 +1,0 @@
-use Rattle.console.proofs.Clips.{to_call, to_none}
-use Rattle.console.proofs.window.Window.reply_by.Goals as goal
-
-pub returns-in-Some : goal.returns-in-Some
-returns-in-Some c = to_call c.args.line.now c.in-Some.ensures c.make.ensures c.to.ensures
-
-pub returns-in-None : goal.returns-in-None
-returns-in-None c = to_none c.args.line.now c.in-None.ensures c.faulty.ensures

@@ -1,9 +1,0 @@
-use Rattle.std.proofs.Common.{◌∙◌}
-use Rattle.labels.specs.Schemes.{any_topic}
-use Rattle.labels.specs.Inclusion.{includes_is}
-use Rattle.labels.proofs.topics.TopicsScheme.flows_to.Goals as goal
-
-pub returns : goal.returns
-returns c =
-    let s = c.args.self.now in
-    c.includes.ensures ∙ includes_is s.topics any_topic s.mask c.args.a c.args.b s.masks
