@@ -24,7 +24,7 @@ calls_of [] = []
 calls_of (None ∷ lines) = calls_of lines
 calls_of (Some call ∷ lines) = call ∷ calls_of lines
 
--- the four numbers of an answer
+-- the line that is printed for an answer: its four numbers
 abbrev pub answer_line : Answer → List ℕ
 answer_line answer = reply_line (reply_of answer)
 

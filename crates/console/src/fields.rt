@@ -11,8 +11,8 @@ pub(crate) fn byte_field(field: &[u8]) -> Option<u8>
     Some(below(256, field)? as u8)
 }
 
-// How many turns a run may take. No generic function carries this and `byte_field`: its clause would speak of a conversion of the
-// type, and not of a limit.
+// How many turns a run may take. Not one generic function with `byte_field`: its clause would speak of a conversion of the type, and
+// not of a limit.
 pub(crate) fn turns_field(field: &[u8]) -> Option<u16>
     ensures { result ≡ number_below 65536 field.now }
 {

@@ -26,7 +26,7 @@ pub fn respond(heap: Global, input: &[u8]) -> Result<String, AllocError>
     }
 }
 
-// What is printed for call lines. What is the same into a buffer lies in `Replies` and `line_of`; a trait for where a line goes
+// What is printed for call lines. What this shares with `write_answers` lies in `Replies` and `line_of`; a trait for where a line goes
 // would be longer than this loop and that of `write_answers`, since only one of them can fail.
 fn answer_lines(heap: Global, window: Window, lines: &[u8]) -> Result<String, AllocError>
     ensures { IfOk result (λ printed. string_bytes printed ≡ to_print window.monitor.table lines.now) }

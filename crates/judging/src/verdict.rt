@@ -8,8 +8,8 @@ use labels::Scheme;
 use rows::{Row, RowReason};
 use table::Table;
 
-/// What rows are judged by: a label scheme, the labels of the slots, and the runner's label. Its clauses name the scheme's members, since words for them
-/// would be no shorter.
+/// What rows are judged by: a label scheme, a table, of which only the labels count, and the runner's label.
+// The methods' clauses name the scheme's members; a word for them would be no shorter.
 #[derive(Drop)]
 pub(crate) struct Judge<'a, S> {
     pub(crate) scheme: &'a S,

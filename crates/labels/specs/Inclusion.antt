@@ -1,4 +1,4 @@
--- The laws of a scheme of marks, and the same order and join by a mask, as code has them. Assumes nothing.
+-- The laws of a scheme of which some bits count, and the same order and join by a mask, as code has them. Assumes nothing.
 use Rattle.std.specs.Prelude.{◌≡◌, ℕ, ◌^◌, ◌<◌, ◌≤◌, Bool, true, false, not, ◌&&◌, ◌||◌, Decides, ◌==◌, nat_eq, nat_lt, refl}
 use Rattle.std.proofs.Common.{sym, ap, ◌∙◌, ⊎_elim}
 use Rattle.std.specs.Int.Bits.{bit_and, bit_or}

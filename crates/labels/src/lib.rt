@@ -20,6 +20,6 @@ pub use pair::Pair;
 pub use scheme::Scheme;
 pub use topics::Topics;
 pub use words::{
-    cap_in_words, house_is_bitwise, house_is_defined, ladder_in_words, pair_in_words,
-    topics_are_bitwise, topics_are_defined,
+    cap_in_words, cap_is_defined, house_is_bitwise, house_is_defined, ladder_in_words,
+    ladder_is_defined, pair_in_words, pair_is_defined, topics_are_bitwise, topics_are_defined,
 };

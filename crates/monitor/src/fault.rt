@@ -60,7 +60,7 @@ impl From<running::Cut> for MonitorFault {
     }
 }
 
-// The text protocol and the C interface tell a refusal by numbers, so these stand beside the variants.
+// The window's lines tell a refusal by numbers, so these stand beside the variants.
 impl MonitorFault {
     /// The number by which the refusal is told.
     pub fn number(self) -> u8

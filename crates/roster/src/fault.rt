@@ -23,7 +23,7 @@ pub enum RosterFault {
     Line { line: u16, reason: LineReason },
 }
 
-// The window's lines and the C interface tell a fault by its number, line and byte, so these stand beside the variants.
+// The window's lines tell a fault by its number, line and byte, so these stand beside the variants.
 impl LineReason {
     /// The number of the fault.
     pub fn number(self) -> u8

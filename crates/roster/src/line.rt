@@ -7,7 +7,8 @@ ghost use Rattle.roster.specs.Parts.{two, TwoNumbers, unended, Whole, Parted, Be
 use crate::place::{Place, Step};
 use numerals::cut_at;
 
-// What a line lists, with its two numbers as they stand in the text. An enum, since a person and a slot are told apart before the numbers are read.
+// What a line lists, with its two numbers as they stand in the text. An enum and no struct with a kind, so that the letter and the
+// numbers are taken out of a line in one `match`.
 #[derive(Clone, Copy)]
 pub(crate) enum RosterLine<'a> {
     Person { number: &'a [u8], label: &'a [u8] },

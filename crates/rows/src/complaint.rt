@@ -9,7 +9,7 @@ use crate::fault::RowReason;
 use crate::kind::{RowKind, Use};
 use table::Table;
 
-/// Refuses the first byte that names a slot which is not listed; where there is none, the first that is not used and not 0.
+// Refuses the first byte that names a slot which is not listed; where there is none, the first that is not used and not 0.
 pub(crate) fn check_bytes(kind: RowKind, bytes: [u8; 8], table: &Table) -> Result<(), RowReason>
     requires { kind_number kind ≡ byte_at bytes 0 }
     ensures { result_err result ≡ option_or (first (slot_complaints (listed table.now.slots) bytes)) (first (rest_complaints bytes)) }

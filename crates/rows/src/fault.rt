@@ -27,7 +27,7 @@ pub enum RowReason {
     WhileNotPassed,
 }
 
-// The window's lines and the C interface tell a fault by its number and byte, so these stand beside the variants.
+// The window's lines tell a fault by its number and byte, so these stand beside the variants.
 impl RowReason {
     /// The number by which the fault is told.
     pub fn number(self) -> u8

@@ -20,7 +20,7 @@ pub fn read_row(bytes: [u8; 8], row: u8, table: &Table) -> Result<Row, RowFault>
     row_from(bytes, table).map_err(|reason| RowFault { row, reason })
 }
 
-/// The row that the bytes stand for, or what first speaks against them: the kind, the operation, a slot, an unused byte.
+// The row that the bytes stand for, or what first speaks against them: the kind, the operation, a slot, an unused byte.
 fn row_from(bytes: [u8; 8], table: &Table) -> Result<Row, RowReason>
     ensures read { IfOk result (λ row. row ≡ row_from bytes) }
     ensures refused { result_err result ≡ first (complaints (listed table.now.slots) bytes) }
@@ -31,7 +31,7 @@ fn row_from(bytes: [u8; 8], table: &Table) -> Result<Row, RowReason>
     Ok(row)
 }
 
-/// The row of a kind, as the bytes give its parts. Slots are not looked at, an operation has to be one of the eight.
+// The row of a kind, as the bytes give its parts. Slots are not looked at, an operation has to be one of the eight.
 fn row_of_kind(kind: RowKind, bytes: [u8; 8]) -> Result<Row, RowReason>
     requires { kind_number kind ≡ byte_at bytes 0 }
     ensures read { IfOk result (λ row. row ≡ row_from bytes) }

@@ -9,7 +9,8 @@ ghost use Rattle.running.specs.Links.{simple_of};
 use rows::Row;
 use table::Table;
 
-// The value of a slot. `Table::value` and `Table::put` test the slot's number: with them a long run took 1.4 times as long as before, which it must not.
+// The value of a slot. Not by `Table::value` and `Table::put`, which test the slot's number: with them a long run takes 1.4 times
+// as long.
 fn value_of(table: &Table, slot: u8) -> i32
     requires { slot < 64 }
     ensures { result ≡ value_at table.now.slots slot }

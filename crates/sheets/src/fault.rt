@@ -23,7 +23,7 @@ impl From<RowFault> for SheetFault {
     }
 }
 
-// The window's lines and the C interface tell a fault by its number, row and byte, so these stand beside the variants.
+// The window's lines tell a fault by its number, row and byte, so these stand beside the variants.
 impl SheetFault {
     /// The number by which the fault is told.
     pub fn number(self) -> u8

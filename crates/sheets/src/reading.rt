@@ -27,7 +27,7 @@ impl Sheet {
     }
 }
 
-// The bytes of each row.
+// The eight bytes of each row, where there are at most 256 rows and no byte is over.
 fn in_eights(bytes: &[u8]) -> Result<&[[u8; 8]], SheetFault>
     ensures { MatchResult result
         (λ eights. (row_count (length bytes.now) ≡ Ok (length eights.now)) × (eights.now ≡ first_chunks 8 (length eights.now) bytes.now))

@@ -44,6 +44,7 @@ impl Open {
     }
 }
 
+// The refusal of the row `at`.
 fn refused(at: u8, reason: RowReason) -> Result<Option<u8>, RowFault>
     ensures { result ≡ refused at reason }
 {
@@ -71,7 +72,7 @@ impl Walker {
         self.stack.last().copied()
     }
 
-    // Opens a block at the row `at`.
+    // Opens a block at the row `at`. It ends no branch, so the answer is `None`.
     fn open(&mut self, block: Open, at: u8) -> Result<Option<u8>, RowFault>
         ensures { Opening block at (latest self.old) result (latest self.new) }
     {

@@ -101,7 +101,7 @@ impl Table {
     }
 }
 
-// Puts an item at an index, if there is such a one. It goes by the index, since of a write through `get_mut` a proof learns nothing.
+// Puts an item at an index, if there is one. It goes by the index, since of a write through `get_mut` a proof learns nothing.
 fn write<T: Copy>(items: &mut [T], index: u8, item: T)
     ensures { items.new ≡ slice_set items.old index item }
 {

@@ -1,4 +1,4 @@
-//! The window's box as a static library, for programs in Rust or C: a few functions on numbers and byte slices.
+//! The window's box as a static library, for programs in Rust or C: two functions on byte slices.
 //!
 //! A box itself cannot be handed to C, since it holds enums. So one call takes a roster and a list of calls as text, plays them at a new box and gives
 //! all answers as text, as the window program does.

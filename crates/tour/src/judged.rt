@@ -119,7 +119,7 @@ fn tell_verdict<S: Scheme>(
     }
 }
 
-// Likewise words of this program: two reasons are told, which are all that a judge gives.
+// Likewise words of this program: two reasons are told, all that a judge gives of a sheet read with the same table.
 fn reason(reason: RowReason) -> &'static str {
     match reason {
         RowReason::SetNotPassed => "for what is set there lies below what the row depends on",
