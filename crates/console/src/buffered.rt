@@ -37,11 +37,14 @@ pub fn room_for(input: &[u8]) -> usize
     30 * (ended_lines(&input[0..input.len().min(MOST)]) + 1)
 }
 
-// How many lines of a text are ended.
+// How many lines of a text are ended. No sum wraps, as there are no more lines than bytes. By `filter` and `count` it takes twice as long.
 fn ended_lines(text: &[u8]) -> usize
     ensures { (result ≡ ends_in text.now) × (result ≤ length text.now) }
 {
-    text.iter().filter(|byte| **byte == b'\n').count()
+    text.iter().fold(
+        0,
+        |ended, byte| ended.wrapping_add(usize::from(*byte == b'\n')),
+    )
 }
 
 // Writes what is printed for an input.

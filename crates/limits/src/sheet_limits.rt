@@ -1,7 +1,7 @@
 //! Calls and sheets at the limits, in one box: persons 0 and 15, slots 0, 1 and 63.
 use crate::{Scheme, show};
+use arrayvec::ArrayVec;
 use monitor::Monitor;
-use std::alloc::{AllocError, Global};
 use std::io;
 
 const ROSTER: &[u8] = b"P,0,0\nP,15,31\nS,0,0\nS,1,9\nS,63,31\n";
@@ -18,15 +18,18 @@ const END: [u8; 8] = [7, 0, 0, 0, 0, 0, 0, 0];
 
 const PUT_0: [u8; 8] = [1, 0, 0, 0, 0, 0, 0, 1];
 
-// The bytes of rows, each so many times.
-fn sheet(heap: Global, rows: &[(usize, [u8; 8])]) -> Result<Vec<u8>, AllocError> {
-    let mut bytes = Vec::new(heap);
+// Room for the longest sheet and one row more.
+const ROOM: usize = 2056;
+
+// The bytes of rows, each so many times, as far as there is room. No heap, so that this program needs none either.
+fn sheet(rows: &[(usize, [u8; 8])]) -> ArrayVec<u8, ROOM> {
+    let mut bytes = ArrayVec::new();
     for (times, row) in rows {
         for _ in 0..*times {
-            bytes.extend_from_slice(row)?;
+            let _ = bytes.try_extend_from_slice(row);
         }
     }
-    Ok(bytes)
+    bytes
 }
 
 // Runs the sheet of these rows for person 0.
@@ -37,8 +40,8 @@ fn run(
     rows: &[(usize, [u8; 8])],
     turns: u16,
 ) -> io::Result<()> {
-    let bytes = sheet(rt.alloc(), rows)?;
-    show(rt, what, monitor.run(0, &bytes, turns))
+    let bytes = sheet(rows);
+    show(rt, what, monitor.run(0, bytes.as_slice(), turns))
 }
 
 pub(crate) fn tell(rt: &HostRuntime, monitor: &mut Monitor<Scheme>) -> io::Result<()> {

@@ -1,5 +1,5 @@
 ghost use Rattle.std.specs.Prelude.{◌≡◌, ℕ, ◌+◌, ◌*◌};
-ghost use Rattle.numerals.specs.Numerals.{held, begins_number, counted, numeral_of};
+ghost use Rattle.numerals.specs.Numerals.{is_digit, held, begins_number, counted, numeral_of};
 ghost use Rattle.numerals.specs.Decimal.{Stands};
 
 /// Why a text gives no number.
@@ -40,12 +40,18 @@ fn digits(text: &[u8]) -> Result<u64, NumeralError>
 {
     let mut value = Some(0);
     for byte in text {
-        if !byte.is_ascii_digit() {
+        if !digit(*byte) {
             return Err(NumeralError::NotANumber);
         }
         value = grown(value, *byte - b'0');
     }
     value.ok_or(NumeralError::TooLarge)
+}
+
+fn digit(byte: u8) -> bool
+    ensures { result ≡ is_digit byte }
+{
+    byte.is_ascii_digit()
 }
 
 // A number with one more digit.

@@ -77,7 +77,8 @@ fn day() -> [Act; CALLS] {
 pub(crate) fn tell(rt: &HostRuntime) -> anyhow::Result<()> {
     println!(rt; "A day at the box:")?;
     let acts = day();
-    let answers = answers_to(rt.alloc(), &acts)?;
+    let calls = acts.map(|act| act.call);
+    let answers = answers_to(rt.alloc(), &calls)?;
     for (act, answer) in acts.iter().zip(answers.iter()) {
         tell_act(rt, act, *answer)?;
     }
@@ -86,17 +87,15 @@ pub(crate) fn tell(rt: &HostRuntime) -> anyhow::Result<()> {
 }
 
 // The answers of a new box to these calls.
-fn answers_to(heap: Global, acts: &[Act]) -> anyhow::Result<Vec<Answer>> {
-    let mut calls = Vec::new(heap);
+fn answers_to(heap: Global, calls: &[Call]) -> anyhow::Result<Vec<Answer>> {
     let mut answers = Vec::new(heap);
-    for act in acts {
-        calls.push(act.call)?;
+    for _ in calls {
         answers.push(Answer::Laid)?;
     }
     let Ok(scheme) = scheme() else {
         return Err(anyhow!("the scheme cannot be built"));
     };
-    match play(scheme, ROSTER, &calls, &mut answers) {
+    match play(scheme, ROSTER, calls, &mut answers) {
         Ok(_) => Ok(answers),
         Err(_) => Err(anyhow!("the roster is refused")),
     }
@@ -136,7 +135,7 @@ fn tell_strike(
     let mut left = Vec::new(rt.alloc());
     for (act, answer) in acts.iter().zip(answers.iter()) {
         if scheme.flows_to(act.person.label, label) {
-            left.push((*act, *answer))?;
+            left.push((act.call, *answer))?;
         }
     }
     let same = same_again(rt.alloc(), &left)?;
@@ -149,12 +148,12 @@ fn tell_strike(
 }
 
 // How many of these calls, made alone at a new box, get the answer that they got before.
-fn same_again(heap: Global, left: &[(Act, Answer)]) -> anyhow::Result<usize> {
-    let mut acts = Vec::new(heap);
-    for (act, _) in left {
-        acts.push(*act)?;
+fn same_again(heap: Global, left: &[(Call, Answer)]) -> anyhow::Result<usize> {
+    let mut calls = Vec::new(heap);
+    for (call, _) in left {
+        calls.push(*call)?;
     }
-    let answers = answers_to(heap, &acts)?;
+    let answers = answers_to(heap, &calls)?;
     Ok(
         left.iter()
             .zip(answers.iter())

@@ -16,12 +16,13 @@ returns c =
     let vf : SFits w32 v = search rules in
     rw (
       c.push-4.ensures.ascii (omega arith),
-      c.push_number-4.ensures.text,
+      c.push_value.ensures.text,
       c.push-3.ensures.ascii (omega arith),
-      c.push_number-3.ensures.text,
+      c.push_field-3.ensures.text,
       c.push-2.ensures.ascii (omega arith),
-      c.push_number-2.ensures.text,
+      c.push_field-2.ensures.text,
       c.push.ensures.ascii (omega arith),
-      c.push_number.ensures.text,
+      c.push_field.ensures.text,
+      c.from.ensures,
       c.new-line.ensures,
     ) (line_parts (decimal n) (decimal r) (decimal b) (signed_decimal (to_z w32 (of_z w32 v))) ∙ (ap (formatted n r b) (to_z-of_z w32 v vf) ∙ sym (as_formatted n r b v nf rf bf vf)))
